@@ -1,1 +1,15 @@
 pub mod Tree
+pub mod Names
+pub mod Types
+pub mod Methods
+pub mod Values
+pub mod State
+pub mod Outcome
+pub mod Printing
+pub mod Lookup
+pub mod Calls
+pub mod Evaluation
+pub mod Base
+pub mod Top
+pub mod Script
+pub mod Rows
