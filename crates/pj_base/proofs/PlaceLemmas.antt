@@ -1,5 +1,6 @@
 -- A text's place among names that are kept under keys.
-use Rattle.std.proofs.Common.{◌≡◌, ℕ, ◌+◌, ◌<◌, Bool, true, false, cond, List, [], ◌∷◌, ◌++◌, Option, Some, None, map, ltb, length, refl, sym, ap, ◌∙◌}
+use Rattle.std.proofs.Common.{◌≡◌, ℕ, Bool, true, false, cond, List, [], ◌∷◌, ◌++◌, Some, None, map, ltb, length, refl, sym, ap, ◌∙◌}
+use Rattle.std.proofs.lemmas.List.{length-map}
 use Rattle.std.specs.List.{list_any, position_or_len, position}
 use Rattle.std.specs.Str.{bytes_eq}
 use Rattle.pj_base.specs.Interned.{Interns}
@@ -35,3 +36,6 @@ module _ {K : Type 0} (f : K → List ℕ) (text : List ℕ) (keys : List K) whe
         at = e1 ∙ sym (position_or_len-map f (bytes_eq text) keys);
         after = rw (list_any-map f (bytes_eq text) keys, ← none, e2, map-push f keys key, same) refl;
       }
+
+pub position-map : {A B : Type 0} (f : A → B) (p : B → Bool) (xs : List A) → position p (map f xs) ≡ position (λ x. p (f x)) xs
+position-map f p xs = rw (position_or_len-map f p xs, length-map xs f) refl

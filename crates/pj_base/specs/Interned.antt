@@ -1,5 +1,5 @@
 -- A list of different texts, each numbered by its place.
-use Rattle.std.specs.Prelude.{◌≡◌, ℕ, Bool, List, [], ◌∷◌, ◌++◌, if◌then◌else◌}
+use Rattle.std.specs.Prelude.{◌≡◌, ℕ, Bool, List, [], ◌∷◌, ◌++◌, Option, position, if◌then◌else◌}
 use Rattle.std.specs.List.{list_any, position_or_len}
 use Rattle.std.specs.Str.{bytes_eq}
 
@@ -15,3 +15,7 @@ place_of text names = position_or_len (bytes_eq text) names
 pub record Interns (text : List ℕ) (old : List (List ℕ)) (place : ℕ) (new : List (List ℕ)) : Type 0 where
   pub at : place ≡ place_of text old
   pub after : new ≡ (if has_text text old then old else old ++ text ∷ [])
+
+-- a text's place, where it is there
+abbrev pub found_at : List ℕ → List (List ℕ) → Option ℕ
+found_at text names = position (bytes_eq text) names

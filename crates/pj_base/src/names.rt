@@ -1,5 +1,5 @@
-ghost use Rattle.std.specs.Prelude.{◌≡◌, ◌<◌, [], IfOk, OnErr, length, Some, slice_get};
-ghost use Rattle.pj_base.specs.Interned.{Interns};
+ghost use Rattle.std.specs.Prelude.{◌≡◌, ◌<◌, [], IfOk, OnErr, length, Some, slice_get, option_map};
+ghost use Rattle.pj_base.specs.Interned.{Interns, found_at};
 
 use crate::memory::NoMemory;
 use indexmap::IndexSet;
@@ -51,6 +51,14 @@ impl Names {
         }
         let (at, _) = self.texts.insert_full(String::from_str(alloc, text)?)?;
         Ok(Name(at as u64))
+    }
+
+    /// The place of a text, where it is there.
+    pub fn find(&self, text: &str) -> Option<Name>
+        ensures { option_map (λ name. name.0) result ≡ found_at text.now self.now }
+    {
+        let at = self.texts.get_index_of(text)?;
+        Some(Name(at as u64))
     }
 
     /// The text at a place.
