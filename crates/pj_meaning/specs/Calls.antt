@@ -68,12 +68,7 @@ construct t vs r = made_as (row_of r.state.types t) t vs r
 
 abbrev pub call_value : Enter → ℕ → ℕ → Value → List Value → Run → Outcome Value
 call_value enter world depth (Function f) vs r = call_function enter world depth f vs r
-call_value enter world depth Nil vs r = Raises (NotCallable (type_of r.state.objects Nil)) r
-call_value enter world depth (Truth b) vs r = Raises (NotCallable (type_of r.state.objects (Truth b))) r
-call_value enter world depth (Whole z) vs r = Raises (NotCallable (type_of r.state.objects (Whole z))) r
-call_value enter world depth (String s) vs r = Raises (NotCallable (type_of r.state.objects (String s))) r
-call_value enter world depth (Object o) vs r = Raises (NotCallable (type_of r.state.objects (Object o))) r
-call_value enter world depth (Struct t us) vs r = Raises (NotCallable t) r
+call_value enter world depth v vs r = Raises (NotCallable (type_of r.state.objects v)) r
 
 abbrev pub call_role : Role → Enter → ℕ → ℕ → List Value → Run → Outcome Value
 call_role (TypeName t) enter world depth vs r = construct t vs r

@@ -4,7 +4,7 @@ use Rattle.std.specs.Str.{bytes_eq}
 use Rattle.pj_meaning.specs.Tree.{Text, Param, Body, body, Block, end, step}
 use Rattle.pj_meaning.specs.Tree as tree
 use Rattle.pj_meaning.specs.Names.{Id}
-use Rattle.pj_meaning.specs.Values.{Value, Nil, Truth, Whole, String, Function, Object, Struct, egal, type_of}
+use Rattle.pj_meaning.specs.Values.{Value, Nil, Truth, Whole, String, Function, egal, type_of}
 use Rattle.pj_meaning.specs.State.{State, is_loaded, is_building, with_method}
 use Rattle.pj_meaning.specs.Outcome.{Error, LocalUndefined, StackOverflow, NonBoolean, RangeBound, Overwriting, ClosedModule, ModuleNotLoaded, Run, Outcome, Gives, Raises, Stops, after, charged, choose, in_state}
 use Rattle.pj_meaning.specs.Lookup.{then_check, read_name, types_at, get_field, set_field, assign, Target, target_of, with_function, has_signature}
@@ -45,12 +45,7 @@ local_value (Some v) name r = Gives v r
 -- a condition has to be a Bool
 abbrev pub on_truth : {A : Type 0} → Value → (Run → Outcome A) → (Run → Outcome A) → Run → Outcome A
 on_truth (Truth b) yes_ no_ r = choose b yes_ no_ r
-on_truth Nil yes_ no_ r = Raises (NonBoolean (type_of r.state.objects Nil)) r
-on_truth (Whole z) yes_ no_ r = Raises (NonBoolean (type_of r.state.objects (Whole z))) r
-on_truth (String s) yes_ no_ r = Raises (NonBoolean (type_of r.state.objects (String s))) r
-on_truth (Function f) yes_ no_ r = Raises (NonBoolean (type_of r.state.objects (Function f))) r
-on_truth (Object o) yes_ no_ r = Raises (NonBoolean (type_of r.state.objects (Object o))) r
-on_truth (Struct t vs) yes_ no_ r = Raises (NonBoolean t) r
+on_truth v yes_ no_ r = Raises (NonBoolean (type_of r.state.objects v)) r
 
 -- Arguments are evaluated from left to right, and the callee is read after them.
 abbrev mutual
@@ -212,10 +207,10 @@ flow_value (Returns v) = v
 flow_value Breaks = Nil
 flow_value Continues = Nil
 
--- a body over its arguments: what it returns, or its block's value
+-- a body over its arguments: what it returns, or its block's value; a parameter without a name hides no name
 abbrev pub in_body : Enter → Frame → Body → List Value → Run → Outcome Value
 in_body enter fr (body params introduced code) vs r =
-    after (block enter fr (parameters params vs ++ unset introduced) Nil code r) (λ w q. Gives (flow_value w.flow) q)
+    after (block enter fr (unset introduced ++ parameters params vs) Nil code r) (λ w q. Gives (flow_value w.flow) q)
 
 abbrev pub most_open : ℕ
 most_open = 20000

@@ -6,7 +6,7 @@ use Rattle.pj_meaning.specs.Tree.{Text, TypeRef, Param}
 use Rattle.pj_meaning.specs.Names.{Id, id, same_id, same_ids}
 use Rattle.pj_meaning.specs.Types.{TypeRow, Field, Form, row_of, is_below, is_abstract}
 use Rattle.pj_meaning.specs.Methods.{Method}
-use Rattle.pj_meaning.specs.Values.{Value, Nil, Truth, Whole, String, Function, Object, Struct, list_of, ObjectName, ObjectRow, same_object, object_of, type_of}
+use Rattle.pj_meaning.specs.Values.{Value, Function, Object, Struct, list_of, ObjectName, ObjectRow, same_object, object_of, type_of}
 use Rattle.pj_meaning.specs.State.{State, Role, TypeName, FunctionName, Constant, Variable, role_of, role_from, is_base_name, is_loaded, bound, reassigned}
 use Rattle.pj_meaning.specs.Outcome.{Error, Undefined, ModuleNotLoaded, NoField, Immutable as ImmutableError, WrongFieldType, Redefinition, NotAbstract}
 
@@ -44,9 +44,7 @@ read_name s home qualifier name =
 
 abbrev pub type_of_role : Role → Error → Result Id Error
 type_of_role (TypeName t) e = Ok t
-type_of_role (FunctionName f) e = Err e
-type_of_role (Constant v) e = Err e
-type_of_role (Variable v) e = Err e
+type_of_role role e = Err e
 
 -- the type that a text of the module `home` names
 abbrev pub type_at : State → Text → TypeRef → Result Id Error
@@ -73,13 +71,9 @@ values_of_object (Some row) = row.values
 
 -- the values of a value's fields
 abbrev pub contents : State → Value → List Value
-contents s Nil = []
-contents s (Truth b) = []
-contents s (Whole z) = []
-contents s (String t) = []
-contents s (Function f) = []
 contents s (Object o) = values_of_object (object_of s.objects o)
 contents s (Struct t vs) = list_of vs
+contents s v = []
 
 abbrev pub value_at : List Field → List Value → Text → Option Value
 value_at [] vs name = None
@@ -111,12 +105,7 @@ store s (Object o) f new =
     if is_below s.types (type_of s.objects new) f.declared
     then Ok (record s { objects = with_object s.objects o (with_value (fields_of s (type_of s.objects (Object o))) (contents s (Object o)) f.name new) })
     else Err (WrongFieldType f.name (type_of s.objects (Object o)) f.declared (type_of s.objects new))
-store s Nil f new = Err (ImmutableError (type_of s.objects Nil))
-store s (Truth b) f new = Err (ImmutableError (type_of s.objects (Truth b)))
-store s (Whole z) f new = Err (ImmutableError (type_of s.objects (Whole z)))
-store s (String t) f new = Err (ImmutableError (type_of s.objects (String t)))
-store s (Function g) f new = Err (ImmutableError (type_of s.objects (Function g)))
-store s (Struct t vs) f new = Err (ImmutableError t)
+store s v f new = Err (ImmutableError (type_of s.objects v))
 
 abbrev pub field_or : Option Field → Error → Result Field Error
 field_or None e = Err e
@@ -133,9 +122,7 @@ set_field s v name new =
 abbrev pub assigned : Option Role → State → Text → Text → Value → Result State Error
 assigned None s home name v = Ok (bound s home name (Variable v))
 assigned (Some (Variable old)) s home name v = Ok (reassigned s home name (Variable v))
-assigned (Some (TypeName t)) s home name v = Err (Redefinition home name)
-assigned (Some (FunctionName f)) s home name v = Err (Redefinition home name)
-assigned (Some (Constant c)) s home name v = Err (Redefinition home name)
+assigned (Some role) s home name v = Err (Redefinition home name)
 
 -- an assignment to a global of a module
 abbrev pub assign : State → Text → Text → Value → Result State Error
@@ -159,16 +146,11 @@ pub record Target : Type 0 where
 abbrev pub own_target : Option Role → Text → Text → Result Target Error
 own_target None home name = Ok (record { fun = id home name; is_new = true })
 own_target (Some (FunctionName f)) home name = Ok (record { fun = f; is_new = false })
-own_target (Some (TypeName t)) home name = Err (Redefinition home name)
-own_target (Some (Constant v)) home name = Err (Redefinition home name)
-own_target (Some (Variable v)) home name = Err (Redefinition home name)
+own_target (Some role) home name = Err (Redefinition home name)
 
 abbrev pub other_target : Option Role → Text → Text → Result Target Error
-other_target None home name = Err (Undefined home name)
 other_target (Some (FunctionName f)) home name = Ok (record { fun = f; is_new = false })
-other_target (Some (TypeName t)) home name = Err (Undefined home name)
-other_target (Some (Constant v)) home name = Err (Undefined home name)
-other_target (Some (Variable v)) home name = Err (Undefined home name)
+other_target role home name = Err (Undefined home name)
 
 -- `f(..) = ..` adds to the text's own function, which it makes where there is none; `M.f(..) = ..` adds to M's
 abbrev pub target_of : State → Text → Text → Text → Result Target Error

@@ -1,7 +1,6 @@
 -- A run of a script: its items in order, up to the first that ends it.
 use Rattle.std.specs.Prelude.{ℕ, List, [], ◌∷◌, Option}
-use Rattle.pj_meaning.specs.Tree.{Text, TopItem, Using, AbstractDef, StructDef, Def, Declare, Const, Directive}
-use Rattle.pj_meaning.specs.Tree as tree
+use Rattle.pj_meaning.specs.Tree.{Text, TopItem, Using}
 use Rattle.pj_meaning.specs.Names.{main_name}
 use Rattle.pj_meaning.specs.Values.{Value}
 use Rattle.pj_meaning.specs.Outcome.{Error, Run, Outcome, Gives, Raises, Stops}
@@ -29,17 +28,13 @@ pub record Ended : Type 0 where
   pub ending : Ending
   pub last : Run
 
+abbrev pub onward_ending : Ending → Run → (Run → Ended) → Ended
+onward_ending AtEnd r next = next r
+onward_ending ending r next = record { ending = ending; last = r }
+
 -- goes on where nothing has ended the run
 unfoldable pub then_run : Ended → (Run → Ended) → Ended
-then_run e next = onward e.ending e.last next
-  where
-    onward : Ending → Run → (Run → Ended) → Ended
-    onward AtEnd r next' = next' r
-    onward (Uncaught error) r next' = record { ending = Uncaught error; last = r }
-    onward OutOfSteps r next' = record { ending = OutOfSteps; last = r }
-    onward (Absent file) r next' = record { ending = Absent file; last = r }
-    onward (TooLong file) r next' = record { ending = TooLong file; last = r }
-    onward (Refused file why) r next' = record { ending = Refused file why; last = r }
+then_run e next = onward_ending e.ending e.last next
 
 unfoldable pub ended : Outcome Value → Ended
 ended (Gives v r) = record { ending = AtEnd; last = r }
@@ -56,13 +51,7 @@ use_all uses (name ∷ names) r = then_run (uses name r) (use_all uses names)
 
 abbrev pub run_item : Uses → TopItem → Run → Ended
 run_item uses (Using names) r = use_all uses names r
-run_item uses (AbstractDef name parent) r = ended (top (AbstractDef name parent) r)
-run_item uses (StructDef mutable name parent fields) r = ended (top (StructDef mutable name parent fields) r)
-run_item uses (Def qualifier name params code) r = ended (top (Def qualifier name params code) r)
-run_item uses (Declare name) r = ended (top (Declare name) r)
-run_item uses (Const name e) r = ended (top (Const name e) r)
-run_item uses (Directive qualifier name types) r = ended (top (Directive qualifier name types) r)
-run_item uses (tree.Run s) r = ended (top (tree.Run s) r)
+run_item uses item r = ended (top item r)
 
 abbrev pub run_items : Uses → List TopItem → Run → Ended
 run_items uses [] r = record { ending = AtEnd; last = r }

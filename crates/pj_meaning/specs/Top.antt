@@ -5,7 +5,7 @@ use Rattle.pj_meaning.specs.Tree as tree
 use Rattle.pj_meaning.specs.Names.{Id, id}
 use Rattle.pj_meaning.specs.Types.{Form, Abstract, Immutable, Mutable, is_abstract}
 use Rattle.pj_meaning.specs.Values.{Value, Nil, Function}
-use Rattle.pj_meaning.specs.State.{State, Role, TypeName, FunctionName, Constant, Variable}
+use Rattle.pj_meaning.specs.State.{State, Role, FunctionName, Constant}
 use Rattle.pj_meaning.specs.Outcome.{Error, Undefined, NeedsConcrete, Run, Outcome, Gives, after}
 use Rattle.pj_meaning.specs.Lookup.{then_check, role_at, named_home, type_at, bind_new, declare, declare_type}
 use Rattle.pj_meaning.specs.Calls.{changed}
@@ -15,19 +15,17 @@ use Rattle.pj_meaning.specs.Evaluation.{Frame, expr, stmt, define, flow_value, e
 abbrev pub top_frame : Run → Frame
 top_frame r = record { home = r.state.here; world = r.state.newest; depth = 0 }
 
-abbrev struct_form : Bool → Form
+abbrev pub struct_form : Bool → Form
 struct_form true = Mutable
 struct_form false = Immutable
 
 -- directives
 
-abbrev function_of_role : Role → Error → Result Id Error
+abbrev pub function_of_role : Role → Error → Result Id Error
 function_of_role (FunctionName f) e = Ok f
-function_of_role (TypeName t) e = Err e
-function_of_role (Constant v) e = Err e
-function_of_role (Variable v) e = Err e
+function_of_role role e = Err e
 
-abbrev concrete_types : State → Text → List TypeRef → Result (List Id) Error
+abbrev pub concrete_types : State → Text → List TypeRef → Result (List Id) Error
 concrete_types s home [] = Ok []
 concrete_types s home (t ∷ ts) =
     then_check (type_at s home t) (λ found.

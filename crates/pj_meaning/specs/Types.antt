@@ -49,9 +49,7 @@ all_below types (s ∷ ss) (t ∷ ts) = if is_below types s t then all_below typ
 
 abbrev pub is_abstract_form : Form → Bool
 is_abstract_form Abstract = true
-is_abstract_form Immutable = false
-is_abstract_form Mutable = false
-is_abstract_form Builtin = false
+is_abstract_form form = false
 
 abbrev pub is_abstract_row : Option TypeRow → Bool
 is_abstract_row None = false

@@ -107,13 +107,8 @@ abbrev mutual
 -- an immutable struct value has one part and those of its fields; any other value has one
 abbrev mutual
   pub parts : Value → ℕ
-  parts Nil = 1
-  parts (Truth b) = 1
-  parts (Whole z) = 1
-  parts (String s) = 1
-  parts (Function f) = 1
-  parts (Object o) = 1
   parts (Struct t vs) = suc (parts_of vs)
+  parts v = 1
 
   pub parts_of : Values → ℕ
   parts_of empty = 0

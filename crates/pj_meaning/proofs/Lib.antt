@@ -1,0 +1,9 @@
+pub mod Keeping
+pub mod Growing
+pub mod GrowingCalls
+pub mod GrowingStatements
+pub mod GrowingRuns
+pub mod Picking
+pub mod Fuel
+pub mod Stopping
+pub mod Parts
