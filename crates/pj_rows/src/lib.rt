@@ -1,0 +1,5 @@
+//! Tests of the whole program: worked rows over a depot and a sink in memory.
+#![tactic(auto)]
+
+#[cfg(test)]
+mod tests;

@@ -1,0 +1,16 @@
+pub mod Texts
+pub mod States
+pub mod Picks
+pub mod Known
+pub mod Entering
+pub mod Evaluates
+pub mod Shows
+pub mod Defines
+pub mod Runs
+pub mod Decimals
+pub mod Found
+pub mod Options
+pub mod Spelled
+pub mod Told
+pub mod Driven
+pub mod Loop

@@ -1,0 +1,12 @@
+//! The top call: all that the program does, from the words of its command line to its status.
+#![tactic(auto)]
+
+mod number;
+mod session;
+mod status;
+mod stop;
+mod top;
+mod words;
+
+pub use status::Status;
+pub use top::{drive, one_ending};
