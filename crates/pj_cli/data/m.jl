@@ -1,0 +1,2 @@
+f(x::Int64) = x * 10
+println(f(4))
