@@ -16,6 +16,7 @@ pub mod Content
 pub mod Packages
 pub mod Using
 pub mod Endings
+pub mod Reports
 pub mod Laws
 pub mod Written
 pub mod RowsFirst
@@ -31,3 +32,4 @@ pub mod RowsPackages
 pub mod RowsBuilding
 pub mod RowsLoading
 pub mod RowsTrees
+pub mod RowsReports

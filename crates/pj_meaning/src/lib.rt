@@ -14,6 +14,7 @@ ghost use Rattle.pj_meaning.specs.RowsPackages.{a_call_through_two_packages, a_c
 ghost use Rattle.pj_meaning.specs.RowsBuilding.{what_a_build_prints_stays_before_its_error, no_method_is_overwritten, no_method_of_its_own_is_overwritten, a_parameter_is_checked_before_overwriting, no_evaluation_in_a_closed_module, a_dependency_does_not_evaluate_in_itself, base_is_closed, a_module_not_loaded_comes_before_a_closed_one, a_package_evaluates_in_itself, only_a_package_of_its_own_text_is_known, a_directives_function_is_checked_first, a_directive_needs_a_function, a_directive_needs_concrete_types, a_directives_types_are_checked_in_order, a_directives_module_is_checked, objects_are_numbered_breadth_first, bindings_stand_in_order_of_binding, types_and_functions_stand_in_order, methods_stand_in_order_also_those_of_other_functions, directives_are_kept, reach_goes_through_own_objects_only, recorded_dependencies_stand_once};
 ghost use Rattle.pj_meaning.specs.RowsLoading.{all_is_there, a_missing_image, a_missing_dependency, an_image_that_is_too_long, a_wrong_form_is_told_before_dependencies_are_read, a_dependency_of_a_wrong_form, an_image_of_another_name, a_dependency_that_was_built_again, a_dependency_comes_before_an_entry, an_entry_that_does_not_fit, a_dependencys_own_dependency_is_not_loaded_for_it, the_last_image_that_has_room, an_image_too_many, images_loaded_before_stay, an_image_that_is_loaded, a_package_that_is_built_counts_as_loaded, a_package_that_is_built_has_no_identity, a_package_that_is_built_takes_a_place, an_entry_comes_before_the_room};
 ghost use Rattle.pj_meaning.specs.RowsTrees.{a_parameter_without_a_name_introduces_nothing, parameters_without_names};
+ghost use Rattle.pj_meaning.specs.RowsReports.{both_are_kept, both_are_dropped, each_directive_once_by_its_first_code, lines_follow_the_end_of_the_budget, nothing_follows_a_missing_image};
 ghost use Rattle.pj_meaning.specs.Laws.{what_is_left_never_rises, the_newest_world_never_falls, methods_are_only_added, types_are_only_added, what_is_seen_at_a_world_stays, printed_text_is_only_added, images_are_only_added, the_module_that_runs_stays, no_birth_is_above_the_newest_world, types_functions_and_consts_stay, an_object_stays_of_its_type, a_script_runs_part_by_part, more_fuel_changes_nothing, a_run_stops_without_a_step, what_is_picked_is_applicable, what_is_picked_is_least, nothing_is_found_where_nothing_applies, contents_keep_objects, contents_keep_bindings};
 
 /// A script by itself, and its charges.
@@ -270,6 +271,15 @@ pub fn loading_rows()
 pub fn tree_rows()
     ensures a_parameter_without_a_name_introduces_nothing { a_parameter_without_a_name_introduces_nothing }
     ensures parameters_without_names { parameters_without_names }
+{}
+
+/// What a report says of compiled code whose validity is given.
+pub fn report_rows()
+    ensures both_are_kept { both_are_kept }
+    ensures both_are_dropped { both_are_dropped }
+    ensures each_directive_once_by_its_first_code { each_directive_once_by_its_first_code }
+    ensures lines_follow_the_end_of_the_budget { lines_follow_the_end_of_the_budget }
+    ensures nothing_follows_a_missing_image { nothing_follows_a_missing_image }
 {}
 
 /// Evaluation takes steps, and adds to what there is.
