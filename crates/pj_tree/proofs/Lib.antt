@@ -1,0 +1,13 @@
+pub mod Spelling
+pub mod TreeSpelling
+pub mod ExprReads
+pub mod TreeReads
+pub mod NumberReads
+pub mod ExprLaws
+pub mod Loops
+pub mod NameLaws
+pub mod Places
+pub mod StmtLaws
+pub mod TreeLaws
+pub mod Depends
+pub mod Appended

@@ -1,0 +1,10 @@
+pub mod Bytes
+pub mod Fits
+pub mod Given
+pub mod Reading
+pub mod Spelled
+pub mod Reads
+pub mod Scopes
+pub mod RowsScopes
+pub mod Named
+pub mod ReadingLaws

@@ -1,0 +1,7 @@
+//! Trees from bytes.
+
+pub mod decode;
+pub mod expr;
+pub mod names;
+pub mod stmt;
+pub mod whole;
