@@ -148,20 +148,20 @@ int_laws = record { takes = int_takes; again = int_again }
 
 -- ---- one field after another
 
-module _ {A B : Type 0} (put : A → List ℕ) (get : Reader A) (P : A → Type 0) (put2 : B → List ℕ) (get2 : Reader B) (P2 : B → Type 0) (one : Laws put get P) (two : Laws put2 get2 P2) where
-  pub both_laws : Laws (λ x. put x.0 ++ put2 x.1) (both get get2) (λ x. P x.0 × P2 x.1)
+module _ {A B : Type 0} (put : A → List ℕ) (get : Reader A) (P : A → Type 0) (put_next : B → List ℕ) (get_next : Reader B) (Q : B → Type 0) (one : Laws put get P) (two : Laws put_next get_next Q) where
+  pub both_laws : Laws (λ x. put x.0 ++ put_next x.1) (both get get_next) (λ x. P x.0 × Q x.1)
   both_laws = record {
     takes = λ bytes x rest fits e.
-        let a = after_some (get bytes) (λ x rest. after (get2 rest) (λ y left. Some ((x, y), left))) (x, rest) e in
-        let b = after_some (get2 a.0.1) (λ y left. Some ((a.0.0, y), left)) (x, rest) a.2 in
+        let a = after_some (get bytes) (λ x rest. after (get_next rest) (λ y left. Some ((x, y), left))) (x, rest) e in
+        let b = after_some (get_next a.0.1) (λ y left. Some ((a.0.0, y), left)) (x, rest) a.2 in
         let first = one.takes bytes a.0.0 a.0.1 fits a.1 in
         let second = two.takes a.0.1 b.0.0 b.0.1 (rest_of put P bytes a.0.0 a.0.1 fits first) b.1 in
-        let whole : bytes ≡ (put a.0.0 ++ put2 b.0.0) ++ b.0.1 = first.parts ∙ ap (λ (t : List ℕ). put a.0.0 ++ t) second.parts ∙ sym (append_assoc (put a.0.0) (put2 b.0.0) b.0.1) in
+        let whole : bytes ≡ (put a.0.0 ++ put_next b.0.0) ++ b.0.1 = first.parts ∙ ap (λ (t : List ℕ). put a.0.0 ++ t) second.parts ∙ sym (append_assoc (put a.0.0) (put_next b.0.0) b.0.1) in
         let is : ((a.0.0, b.0.0), b.0.1) ≡ (x, rest) = some_is ((a.0.0, b.0.0), b.0.1) (x, rest) b.2 in
-        subst (λ (y : (A × B) × List ℕ). Taken (λ x. put x.0 ++ put2 x.1) (λ x. P x.0 × P2 x.1) bytes y.0 y.1) is (record { fits = (first.fits, second.fits); parts = whole });
+        subst (λ (y : (A × B) × List ℕ). Taken (λ x. put x.0 ++ put_next x.1) (λ x. P x.0 × Q x.1) bytes y.0 y.1) is (record { fits = (first.fits, second.fits); parts = whole });
     again = λ x rest fits.
-        let regrouped : (put x.0 ++ put2 x.1) ++ rest ≡ put x.0 ++ (put2 x.1 ++ rest) = append_assoc (put x.0) (put2 x.1) rest in
-        ap (both get get2) regrouped ∙ rw (one.again x.0 (put2 x.1 ++ rest) fits.0, two.again x.1 rest fits.1) refl;
+        let regrouped : (put x.0 ++ put_next x.1) ++ rest ≡ put x.0 ++ (put_next x.1 ++ rest) = append_assoc (put x.0) (put_next x.1) rest in
+        ap (both get get_next) regrouped ∙ rw (one.again x.0 (put_next x.1 ++ rest) fits.0, two.again x.1 rest fits.1) refl;
   }
 
 -- ---- lists
@@ -203,13 +203,13 @@ module _ {A : Type 0} (put : A → List ℕ) (get : Reader A) (P : A → Type 0)
 -- ---- a value made of what was read
 
 module _ {A B : Type 0} (make : A → B) (put : A → List ℕ) (get : Reader A) (P : A → Type 0) (one : Laws put get P) where
-  pub made_takes : (put2 : B → List ℕ) (P2 : B → Type 0) → ((x : A) → put2 (make x) ≡ put x) → ((x : A) → P x → P2 (make x))
-      → (bytes : List ℕ) (y : B) (rest : List ℕ) → IsBytes bytes → made make get bytes ≡ Some (y, rest) → Taken put2 P2 bytes y rest
-  made_takes put2 P2 spelled fit bytes y rest fits e =
+  pub made_takes : (put_next : B → List ℕ) (Q : B → Type 0) → ((x : A) → put_next (make x) ≡ put x) → ((x : A) → P x → Q (make x))
+      → (bytes : List ℕ) (y : B) (rest : List ℕ) → IsBytes bytes → made make get bytes ≡ Some (y, rest) → Taken put_next Q bytes y rest
+  made_takes put_next Q spelled fit bytes y rest fits e =
       let a = after_some (get bytes) (λ x left. Some (make x, left)) (y, rest) e in
       let t = one.takes bytes a.0.0 a.0.1 fits a.1 in
-      let whole : bytes ≡ put2 (make a.0.0) ++ a.0.1 = rw (spelled a.0.0) t.parts in
-      subst (λ (y : B × List ℕ). Taken put2 P2 bytes y.0 y.1) (some_is (make a.0.0, a.0.1) (y, rest) a.2) (record { fits = fit a.0.0 t.fits; parts = whole })
+      let whole : bytes ≡ put_next (make a.0.0) ++ a.0.1 = rw (spelled a.0.0) t.parts in
+      subst (λ (y : B × List ℕ). Taken put_next Q bytes y.0 y.1) (some_is (make a.0.0, a.0.1) (y, rest) a.2) (record { fits = fit a.0.0 t.fits; parts = whole })
 
   pub made_again : (x : A) (rest : List ℕ) → P x → made make get (put x ++ rest) ≡ Some (make x, rest)
   made_again x rest fits = rw (one.again x rest fits) refl
