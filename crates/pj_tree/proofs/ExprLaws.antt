@@ -14,6 +14,7 @@ use Rattle.pj_tree.specs.declared.tree.Expr.TheFolds.{fold-roll-Expr}
 use Rattle.pj_tree.specs.Bytes.{Bytes, sym as sym_bytes, expr, expr_step}
 use Rattle.pj_tree.specs.Fits.{ListFits, SymFits, ExprNodeFits, ExprFits}
 use Rattle.pj_tree.specs.Reading.{sym_at, expr_rows, expr_node_at, expr_at}
+use Rattle.pj_tree.proofs.Spelling.{expr-Nothing, expr-False, expr-True, expr-Int, expr-Str, expr-Local, expr-Global, expr-Field, expr-Call, expr-CallLocal, expr-Latest, expr-And, expr-Or, expr-Cond, expr-Same}
 use Rattle.pj_tree.proofs.NameLaws.{parts-is, sym_laws, assoc-2, assoc-3}
 
 abbrev NodeFits : (Expr → Type 0) → Expr → Type 0
@@ -22,49 +23,49 @@ NodeFits P x = ExprNodeFits P (out-Expr x)
 -- ---- the bytes of each form
 
 spelled-Nothing : expr e.Nothing ≡ number 0
-spelled-Nothing = ap expr (sym e.rolls-Nothing) ∙ fold-roll-Expr Bytes expr_step Expr-F.Nothing
+spelled-Nothing = expr-Nothing
 
 spelled-False : expr e.False ≡ number 1
-spelled-False = ap expr (sym e.rolls-False) ∙ fold-roll-Expr Bytes expr_step Expr-F.False
+spelled-False = expr-False
 
 spelled-True : expr e.True ≡ number 2
-spelled-True = ap expr (sym e.rolls-True) ∙ fold-roll-Expr Bytes expr_step Expr-F.True
+spelled-True = expr-True
 
 spelled-Int : (a : ℤ) → expr (e.Int a) ≡ number 3 ++ int a
-spelled-Int a = ap expr (sym (e.rolls-Int a)) ∙ fold-roll-Expr Bytes expr_step (Expr-F.Int a)
+spelled-Int a = expr-Int a
 
 spelled-Str : (a : Sym) → expr (e.Str a) ≡ number 4 ++ sym_bytes a
-spelled-Str a = ap expr (sym (e.rolls-Str a)) ∙ fold-roll-Expr Bytes expr_step (Expr-F.Str a)
+spelled-Str a = expr-Str a
 
 spelled-Local : (a : Sym) → expr (e.Local a) ≡ number 5 ++ sym_bytes a
-spelled-Local a = ap expr (sym (e.rolls-Local a)) ∙ fold-roll-Expr Bytes expr_step (Expr-F.Local a)
+spelled-Local a = expr-Local a
 
 spelled-Global : (a : Sym) (b : Sym) → expr (e.Global a b) ≡ number 6 ++ ((sym_bytes a ++ sym_bytes b))
-spelled-Global a b = ap expr (sym (e.rolls-Global a b)) ∙ fold-roll-Expr Bytes expr_step (Expr-F.Global a b) ∙ assoc-2 (number 6) (sym_bytes a) (sym_bytes b)
+spelled-Global a b = expr-Global a b ∙ assoc-2 (number 6) (sym_bytes a) (sym_bytes b)
 
 spelled-Field : (a : Expr) (b : Sym) → expr (e.Field a b) ≡ number 7 ++ ((expr a ++ sym_bytes b))
-spelled-Field a b = ap expr (sym (e.rolls-Field a b)) ∙ fold-roll-Expr Bytes expr_step (Expr-F.Field a b) ∙ assoc-2 (number 7) (expr a) (sym_bytes b)
+spelled-Field a b = expr-Field a b ∙ assoc-2 (number 7) (expr a) (sym_bytes b)
 
 spelled-Call : (a : Sym) (b : Sym) (c : List Expr) → expr (e.Call a b c) ≡ number 8 ++ ((sym_bytes a ++ (sym_bytes b ++ list expr c)))
-spelled-Call a b c = ap expr (sym (e.rolls-Call a b c)) ∙ fold-roll-Expr Bytes expr_step (Expr-F.Call a b c) ∙ ap (λ (y : List ℕ). number 8 ++ sym_bytes a ++ sym_bytes b ++ y) (parts-is expr c) ∙ assoc-3 (number 8) (sym_bytes a) (sym_bytes b) (list expr c)
+spelled-Call a b c = expr-Call a b c ∙ assoc-3 (number 8) (sym_bytes a) (sym_bytes b) (list expr c)
 
 spelled-CallLocal : (a : Sym) (b : List Expr) → expr (e.CallLocal a b) ≡ number 9 ++ ((sym_bytes a ++ list expr b))
-spelled-CallLocal a b = ap expr (sym (e.rolls-CallLocal a b)) ∙ fold-roll-Expr Bytes expr_step (Expr-F.CallLocal a b) ∙ ap (λ (y : List ℕ). number 9 ++ sym_bytes a ++ y) (parts-is expr b) ∙ assoc-2 (number 9) (sym_bytes a) (list expr b)
+spelled-CallLocal a b = expr-CallLocal a b ∙ assoc-2 (number 9) (sym_bytes a) (list expr b)
 
 spelled-Latest : (a : Expr) (b : List Expr) → expr (e.Latest a b) ≡ number 10 ++ ((expr a ++ list expr b))
-spelled-Latest a b = ap expr (sym (e.rolls-Latest a b)) ∙ fold-roll-Expr Bytes expr_step (Expr-F.Latest a b) ∙ ap (λ (y : List ℕ). number 10 ++ expr a ++ y) (parts-is expr b) ∙ assoc-2 (number 10) (expr a) (list expr b)
+spelled-Latest a b = expr-Latest a b ∙ assoc-2 (number 10) (expr a) (list expr b)
 
 spelled-And : (a : Expr) (b : Expr) → expr (e.And a b) ≡ number 11 ++ ((expr a ++ expr b))
-spelled-And a b = ap expr (sym (e.rolls-And a b)) ∙ fold-roll-Expr Bytes expr_step (Expr-F.And a b) ∙ assoc-2 (number 11) (expr a) (expr b)
+spelled-And a b = expr-And a b ∙ assoc-2 (number 11) (expr a) (expr b)
 
 spelled-Or : (a : Expr) (b : Expr) → expr (e.Or a b) ≡ number 12 ++ ((expr a ++ expr b))
-spelled-Or a b = ap expr (sym (e.rolls-Or a b)) ∙ fold-roll-Expr Bytes expr_step (Expr-F.Or a b) ∙ assoc-2 (number 12) (expr a) (expr b)
+spelled-Or a b = expr-Or a b ∙ assoc-2 (number 12) (expr a) (expr b)
 
 spelled-Cond : (a : Expr) (b : Expr) (c : Expr) → expr (e.Cond a b c) ≡ number 13 ++ ((expr a ++ (expr b ++ expr c)))
-spelled-Cond a b c = ap expr (sym (e.rolls-Cond a b c)) ∙ fold-roll-Expr Bytes expr_step (Expr-F.Cond a b c) ∙ assoc-3 (number 13) (expr a) (expr b) (expr c)
+spelled-Cond a b c = expr-Cond a b c ∙ assoc-3 (number 13) (expr a) (expr b) (expr c)
 
 spelled-Same : (a : Expr) (b : Expr) → expr (e.Same a b) ≡ number 14 ++ ((expr a ++ expr b))
-spelled-Same a b = ap expr (sym (e.rolls-Same a b)) ∙ fold-roll-Expr Bytes expr_step (Expr-F.Same a b) ∙ assoc-2 (number 14) (expr a) (expr b)
+spelled-Same a b = expr-Same a b ∙ assoc-2 (number 14) (expr a) (expr b)
 
 -- ---- one node
 

@@ -4,20 +4,12 @@ use Rattle.std.proofs.lemmas.List.{length-map}
 use Rattle.pj_fields.specs.Fields.{number, int, list}
 use Rattle.pj_tree.specs.Bytes.{Bytes, parts, expr_step, expr}
 use Rattle.pj_tree.specs.Bytes.{sym as name}
+use Rattle.pj_tree.proofs.NameLaws.{parts-is}
 use Rattle.pj_tree.specs.declared.tree.Sym.{Sym}
 use Rattle.pj_tree.specs.declared.tree.Expr.{Expr}
 use Rattle.pj_tree.specs.declared.tree.Expr.TheVariants as e
 use Rattle.pj_tree.specs.declared.tree.Expr.TheOpen.{Expr-F}
 use Rattle.pj_tree.specs.declared.tree.Expr.TheFolds.{fold-roll-Expr}
-
--- members that are bytes already, and members that become bytes
-flat_map-parts : {A : Type 0} (put : A → Bytes) (xs : List A) → flat_map (λ p. p) (map put xs) ≡ flat_map put xs
-flat_map-parts put [] = refl
-flat_map-parts put (x ∷ xs) = ap (λ t. put x ++ t) (flat_map-parts put xs)
-
-pub parts-map : {A : Type 0} (put : A → Bytes) (xs : List A) → parts (map put xs) ≡ list put xs
-unfolding parts list
-parts-map put xs = ap (λ n. number n ++ flat_map (λ p. p) (map put xs)) (length-map xs put) ∙ ap (λ t. number (length xs) ++ t) (flat_map-parts put xs)
 
 pub expr-Nothing : expr e.Nothing ≡ number 0
 expr-Nothing = ap expr (sym e.rolls-Nothing) ∙ fold-roll-Expr Bytes expr_step Expr-F.Nothing
@@ -44,13 +36,13 @@ pub expr-Field : (a : Expr) (x : Sym) → expr (e.Field a x) ≡ number 7 ++ exp
 expr-Field a x = ap expr (sym (e.rolls-Field a x)) ∙ fold-roll-Expr Bytes expr_step (Expr-F.Field a x)
 
 pub expr-Call : (m : Sym) (f : Sym) (es : List Expr) → expr (e.Call m f es) ≡ number 8 ++ name m ++ name f ++ list expr es
-expr-Call m f es = ap expr (sym (e.rolls-Call m f es)) ∙ fold-roll-Expr Bytes expr_step (Expr-F.Call m f es) ∙ ap (λ t. number 8 ++ name m ++ name f ++ t) (parts-map expr es)
+expr-Call m f es = ap expr (sym (e.rolls-Call m f es)) ∙ fold-roll-Expr Bytes expr_step (Expr-F.Call m f es) ∙ ap (λ t. number 8 ++ name m ++ name f ++ t) (parts-is expr es)
 
 pub expr-CallLocal : (x : Sym) (es : List Expr) → expr (e.CallLocal x es) ≡ number 9 ++ name x ++ list expr es
-expr-CallLocal x es = ap expr (sym (e.rolls-CallLocal x es)) ∙ fold-roll-Expr Bytes expr_step (Expr-F.CallLocal x es) ∙ ap (λ t. number 9 ++ name x ++ t) (parts-map expr es)
+expr-CallLocal x es = ap expr (sym (e.rolls-CallLocal x es)) ∙ fold-roll-Expr Bytes expr_step (Expr-F.CallLocal x es) ∙ ap (λ t. number 9 ++ name x ++ t) (parts-is expr es)
 
 pub expr-Latest : (a : Expr) (es : List Expr) → expr (e.Latest a es) ≡ number 10 ++ expr a ++ list expr es
-expr-Latest a es = ap expr (sym (e.rolls-Latest a es)) ∙ fold-roll-Expr Bytes expr_step (Expr-F.Latest a es) ∙ ap (λ t. number 10 ++ expr a ++ t) (parts-map expr es)
+expr-Latest a es = ap expr (sym (e.rolls-Latest a es)) ∙ fold-roll-Expr Bytes expr_step (Expr-F.Latest a es) ∙ ap (λ t. number 10 ++ expr a ++ t) (parts-is expr es)
 
 pub expr-And : (a : Expr) (b : Expr) → expr (e.And a b) ≡ number 11 ++ expr a ++ expr b
 expr-And a b = ap expr (sym (e.rolls-And a b)) ∙ fold-roll-Expr Bytes expr_step (Expr-F.And a b)

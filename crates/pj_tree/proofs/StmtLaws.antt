@@ -18,6 +18,7 @@ use Rattle.pj_tree.specs.declared.tree.Part.TheFolds.{fold-roll-Stmt}
 use Rattle.pj_tree.specs.Bytes.{Bytes, sym as sym_bytes, syms, expr, stmt, parts, part_bytes, part_step, payload_step, stmt_step, tree_step, body_step, def_step}
 use Rattle.pj_tree.specs.Fits.{ListFits, SymFits, PartFits, ExprFits, StmtNodeFits, StmtFits}
 use Rattle.pj_tree.specs.Reading.{sym_at, syms_at, part_at, stmt_rows, stmt_node_at, expr_at, stmt_at}
+use Rattle.pj_tree.proofs.TreeSpelling.{stmt-Value, stmt-SetLocal, stmt-SetGlobal, stmt-SetField, stmt-If, stmt-While, stmt-For, stmt-Break, stmt-Continue, stmt-Return, stmt-Eval}
 use Rattle.pj_tree.proofs.NameLaws.{parts-is, sym_laws, syms_laws, part_laws, assoc-2, assoc-3, assoc-5}
 use Rattle.pj_tree.proofs.ExprLaws.{expr_laws}
 
@@ -27,39 +28,39 @@ NodeFits P S x = StmtNodeFits P S (out-Stmt x)
 -- ---- the bytes of each form
 
 spelled-Value : (a : Expr) → stmt (o.Value a) ≡ number 32 ++ expr a
-spelled-Value a = ap stmt (sym (o.rolls-Value a)) ∙ fold-roll-Stmt Bytes Bytes Bytes Bytes Bytes Bytes part_step payload_step stmt_step tree_step body_step def_step (Stmt-F.Stmt::Value a)
+spelled-Value a = stmt-Value a
 
 spelled-SetLocal : (a : Sym) (b : Expr) → stmt (o.SetLocal a b) ≡ number 33 ++ ((sym_bytes a ++ expr b))
-spelled-SetLocal a b = ap stmt (sym (o.rolls-SetLocal a b)) ∙ fold-roll-Stmt Bytes Bytes Bytes Bytes Bytes Bytes part_step payload_step stmt_step tree_step body_step def_step (Stmt-F.SetLocal a b) ∙ assoc-2 (number 33) (sym_bytes a) (expr b)
+spelled-SetLocal a b = stmt-SetLocal a b ∙ assoc-2 (number 33) (sym_bytes a) (expr b)
 
 spelled-SetGlobal : (a : Sym) (b : Expr) → stmt (o.SetGlobal a b) ≡ number 34 ++ ((sym_bytes a ++ expr b))
-spelled-SetGlobal a b = ap stmt (sym (o.rolls-SetGlobal a b)) ∙ fold-roll-Stmt Bytes Bytes Bytes Bytes Bytes Bytes part_step payload_step stmt_step tree_step body_step def_step (Stmt-F.SetGlobal a b) ∙ assoc-2 (number 34) (sym_bytes a) (expr b)
+spelled-SetGlobal a b = stmt-SetGlobal a b ∙ assoc-2 (number 34) (sym_bytes a) (expr b)
 
 spelled-SetField : (a : Expr) (b : Sym) (c : Expr) → stmt (o.SetField a b c) ≡ number 35 ++ ((expr a ++ (sym_bytes b ++ expr c)))
-spelled-SetField a b c = ap stmt (sym (o.rolls-SetField a b c)) ∙ fold-roll-Stmt Bytes Bytes Bytes Bytes Bytes Bytes part_step payload_step stmt_step tree_step body_step def_step (Stmt-F.SetField a b c) ∙ assoc-3 (number 35) (expr a) (sym_bytes b) (expr c)
+spelled-SetField a b c = stmt-SetField a b c ∙ assoc-3 (number 35) (expr a) (sym_bytes b) (expr c)
 
 spelled-If : (a : Expr) (b : List Stmt) (c : List Stmt) → stmt (o.If a b c) ≡ number 36 ++ ((expr a ++ (list stmt b ++ list stmt c)))
-spelled-If a b c = ap stmt (sym (o.rolls-If a b c)) ∙ fold-roll-Stmt Bytes Bytes Bytes Bytes Bytes Bytes part_step payload_step stmt_step tree_step body_step def_step (Stmt-F.If a b c) ∙ ap (λ (y : List ℕ). number 36 ++ expr a ++ y ++ parts (map stmt c)) (parts-is stmt b) ∙ ap (λ (y : List ℕ). number 36 ++ expr a ++ list stmt b ++ y) (parts-is stmt c) ∙ assoc-3 (number 36) (expr a) (list stmt b) (list stmt c)
+spelled-If a b c = stmt-If a b c ∙ assoc-3 (number 36) (expr a) (list stmt b) (list stmt c)
 
 spelled-While : (a : List Sym) (b : Expr) (c : List Stmt) → stmt (o.While a b c) ≡ number 37 ++ ((list sym_bytes a ++ (expr b ++ list stmt c)))
 unfolding syms
-spelled-While a b c = ap stmt (sym (o.rolls-While a b c)) ∙ fold-roll-Stmt Bytes Bytes Bytes Bytes Bytes Bytes part_step payload_step stmt_step tree_step body_step def_step (Stmt-F.While a b c) ∙ ap (λ (y : List ℕ). number 37 ++ list sym_bytes a ++ expr b ++ y) (parts-is stmt c) ∙ assoc-3 (number 37) (list sym_bytes a) (expr b) (list stmt c)
+spelled-While a b c = stmt-While a b c ∙ assoc-3 (number 37) (list sym_bytes a) (expr b) (list stmt c)
 
 spelled-For : (a : Sym) (b : Expr) (c : Expr) (d : List Sym) (g : List Stmt) → stmt (o.For a b c d g) ≡ number 38 ++ ((sym_bytes a ++ (expr b ++ (expr c ++ (list sym_bytes d ++ list stmt g)))))
 unfolding syms
-spelled-For a b c d g = ap stmt (sym (o.rolls-For a b c d g)) ∙ fold-roll-Stmt Bytes Bytes Bytes Bytes Bytes Bytes part_step payload_step stmt_step tree_step body_step def_step (Stmt-F.For a b c d g) ∙ ap (λ (y : List ℕ). number 38 ++ sym_bytes a ++ expr b ++ expr c ++ list sym_bytes d ++ y) (parts-is stmt g) ∙ assoc-5 (number 38) (sym_bytes a) (expr b) (expr c) (list sym_bytes d) (list stmt g)
+spelled-For a b c d g = stmt-For a b c d g ∙ assoc-5 (number 38) (sym_bytes a) (expr b) (expr c) (list sym_bytes d) (list stmt g)
 
 spelled-Break : stmt o.Break ≡ number 39
-spelled-Break = ap stmt (sym o.rolls-Break) ∙ fold-roll-Stmt Bytes Bytes Bytes Bytes Bytes Bytes part_step payload_step stmt_step tree_step body_step def_step Stmt-F.Break
+spelled-Break = stmt-Break
 
 spelled-Continue : stmt o.Continue ≡ number 40
-spelled-Continue = ap stmt (sym o.rolls-Continue) ∙ fold-roll-Stmt Bytes Bytes Bytes Bytes Bytes Bytes part_step payload_step stmt_step tree_step body_step def_step Stmt-F.Continue
+spelled-Continue = stmt-Continue
 
 spelled-Return : (a : Expr) → stmt (o.Return a) ≡ number 41 ++ expr a
-spelled-Return a = ap stmt (sym (o.rolls-Return a)) ∙ fold-roll-Stmt Bytes Bytes Bytes Bytes Bytes Bytes part_step payload_step stmt_step tree_step body_step def_step (Stmt-F.Return a)
+spelled-Return a = stmt-Return a
 
 spelled-Eval : (a : Sym) (b : Part) → stmt (o.Eval a b) ≡ number 42 ++ ((sym_bytes a ++ part_bytes b))
-spelled-Eval a b = ap stmt (sym (o.rolls-Eval a b)) ∙ fold-roll-Stmt Bytes Bytes Bytes Bytes Bytes Bytes part_step payload_step stmt_step tree_step body_step def_step (Stmt-F.Eval a b) ∙ assoc-2 (number 42) (sym_bytes a) (part_bytes b)
+spelled-Eval a b = stmt-Eval a b ∙ assoc-2 (number 42) (sym_bytes a) (part_bytes b)
 
 -- ---- one node
 

@@ -17,6 +17,7 @@ use Rattle.pj_tree.specs.declared.tree.Part.TheOpen.{Payload-F, TreeNode-F}
 use Rattle.pj_tree.specs.declared.tree.Part.TheViews.{roll-out-TreeNode, roll-out-Payload, roll-out-Body, roll-out-DefTree}
 use Rattle.pj_tree.specs.declared.tree.Part.TheFolds.{fold-Payload, fold-roll-TreeNode, fold-roll-Payload, fold-roll-Body, fold-roll-DefTree}
 use Rattle.pj_tree.specs.Bytes.{Bytes, sym as sym_bytes, syms, param, params, expr, stmt, tree, part_bytes, part_step, payload_step, stmt_step, tree_step, body_step, def_step}
+use Rattle.pj_tree.specs.Spelled.{payload as payload_spelled}
 use Rattle.pj_tree.specs.Fits.{ListFits, SymFits, ParamFits, PartFits, ExprFits, StmtFits, DefNodeFits, BodyNodeFits, PayloadNodeFits, TreeNodeFits, TreeFitsBelow, TreeFits}
 use Rattle.pj_tree.specs.Reading.{sym_at, syms_at, part_at, param_at, expr_at, stmt_at, def_of, body_of, tree_rows, tree_node_at, tree_at}
 use Rattle.pj_tree.proofs.NameLaws.{parts-is, sym_laws, syms_laws, params_laws, part_laws, assoc-2, assoc-3, assoc-4}
@@ -26,19 +27,16 @@ use Rattle.pj_tree.proofs.StmtLaws.{stmt_laws}
 abbrev NodeFits : (Expr → Type 0) → (Stmt → Type 0) → TreeNode → Type 0
 NodeFits P S t = TreeNodeFits P S (out-TreeNode t)
 
-abbrev payload_bytes : Payload → Bytes
-payload_bytes = fold-Payload Bytes Bytes Bytes Bytes Bytes Bytes part_step payload_step stmt_step tree_step body_step def_step
-
 -- ---- the bytes of each form
 
-as-payload : (p : Payload) → tree (node.Payload p) ≡ payload_bytes p
+as-payload : (p : Payload) → tree (node.Payload p) ≡ payload_spelled p
 as-payload p = ap tree (sym (node.rolls-Payload p)) ∙ fold-roll-TreeNode Bytes Bytes Bytes Bytes Bytes Bytes part_step payload_step stmt_step tree_step body_step def_step (TreeNode-F.Payload p)
 
 spelled-Def : (a b : Sym) (c : List Param) (d : Part) → tree (node.Payload (payload.Def (def_of (a, (b, (c, d)))))) ≡ number 64 ++ (sym_bytes a ++ (sym_bytes b ++ (list param c ++ part_bytes d)))
 unfolding params
 spelled-Def a b c d =
     as-payload (payload.Def (def_of (a, (b, (c, d)))))
-    ∙ ap payload_bytes (sym (payload.rolls-Def (def_of (a, (b, (c, d))))))
+    ∙ ap payload_spelled (sym (payload.rolls-Def (def_of (a, (b, (c, d))))))
     ∙ fold-roll-Payload Bytes Bytes Bytes Bytes Bytes Bytes part_step payload_step stmt_step tree_step body_step def_step (Payload-F.Def (def_of (a, (b, (c, d)))))
     ∙ fold-roll-DefTree Bytes Bytes Bytes Bytes Bytes Bytes part_step payload_step stmt_step tree_step body_step def_step (record { «module» = a; fun = b; params = c; body = d })
     ∙ assoc-4 (number 64) (sym_bytes a) (sym_bytes b) (list param c) (part_bytes d)
@@ -46,14 +44,14 @@ spelled-Def a b c d =
 spelled-SetBinding : (a : Sym) (b : Expr) → tree (node.Payload (payload.SetBinding a b)) ≡ number 65 ++ (sym_bytes a ++ expr b)
 spelled-SetBinding a b =
     as-payload (payload.SetBinding a b)
-    ∙ ap payload_bytes (sym (payload.rolls-SetBinding a b))
+    ∙ ap payload_spelled (sym (payload.rolls-SetBinding a b))
     ∙ fold-roll-Payload Bytes Bytes Bytes Bytes Bytes Bytes part_step payload_step stmt_step tree_step body_step def_step (Payload-F.SetBinding a b)
     ∙ assoc-2 (number 65) (sym_bytes a) (expr b)
 
 spelled-Value : (a : Expr) → tree (node.Payload (payload.Value a)) ≡ number 66 ++ expr a
 spelled-Value a =
     as-payload (payload.Value a)
-    ∙ ap payload_bytes (sym (payload.rolls-Value a))
+    ∙ ap payload_spelled (sym (payload.rolls-Value a))
     ∙ fold-roll-Payload Bytes Bytes Bytes Bytes Bytes Bytes part_step payload_step stmt_step tree_step body_step def_step (Payload-F.Payload::Value a)
 
 spelled-Body : (a b : List Sym) (c : List Stmt) → tree (node.Body (body_of (a, (b, c)))) ≡ number 67 ++ (list sym_bytes a ++ (list sym_bytes b ++ list stmt c))

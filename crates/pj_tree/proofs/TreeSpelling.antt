@@ -1,9 +1,9 @@
 -- The bytes of statements and of the trees round them, one equation for each tag.
 use Rattle.std.proofs.Common.{◌≡◌, ℕ, List, [], ◌++◌, map, sym, ap, ◌∙◌, append_assoc}
 use Rattle.pj_fields.specs.Fields.{number, list}
-use Rattle.pj_tree.specs.Bytes.{Bytes, parts, syms, params, part_step, payload_step, stmt_step, tree_step, body_step, def_step, expr, stmt, tree}
+use Rattle.pj_tree.specs.Bytes.{Bytes, part_bytes, parts, syms, params, part_step, payload_step, stmt_step, tree_step, body_step, def_step, expr, stmt, tree}
 use Rattle.pj_tree.specs.Bytes.{sym as name}
-use Rattle.pj_tree.specs.Spelled.{part, payload, body, definition}
+use Rattle.pj_tree.specs.Spelled.{payload, body, definition}
 use Rattle.pj_tree.specs.declared.tree.Sym.{Sym}
 use Rattle.pj_tree.specs.declared.tree.Expr.{Expr}
 use Rattle.pj_tree.specs.declared.tree.Stmt.{Stmt}
@@ -18,7 +18,7 @@ use Rattle.pj_tree.specs.declared.tree.TreeNode.TheVariants as t
 use Rattle.pj_tree.specs.declared.tree.Payload.TheVariants as y
 use Rattle.pj_tree.specs.declared.tree.Part.TheOpen.{Part-F, Payload-F, Stmt-F, TreeNode-F}
 use Rattle.pj_tree.specs.declared.tree.Part.TheFolds.{fold-roll-Part, fold-roll-Payload, fold-roll-Stmt, fold-roll-TreeNode, fold_out-Body, fold_out-DefTree}
-use Rattle.pj_tree.proofs.Spelling.{parts-map}
+use Rattle.pj_tree.proofs.NameLaws.{parts-is}
 
 pub stmt-Value : (v : Expr) → stmt (s.Value v) ≡ number 32 ++ expr v
 stmt-Value v =
@@ -44,20 +44,20 @@ pub stmt-If : (c : Expr) (b : List Stmt) (d : List Stmt) → stmt (s.If c b d) �
 stmt-If c b d =
     ap stmt (sym (s.rolls-If c b d))
     ∙ fold-roll-Stmt Bytes Bytes Bytes Bytes Bytes Bytes part_step payload_step stmt_step tree_step body_step def_step (Stmt-F.If c b d)
-    ∙ ap (λ l. number 36 ++ expr c ++ l ++ parts (map stmt d)) (parts-map stmt b)
-    ∙ ap (λ l. number 36 ++ expr c ++ list stmt b ++ l) (parts-map stmt d)
+    ∙ ap (λ l. number 36 ++ expr c ++ l ++ parts (map stmt d)) (parts-is stmt b)
+    ∙ ap (λ l. number 36 ++ expr c ++ list stmt b ++ l) (parts-is stmt d)
 
 pub stmt-While : (ns : List Sym) (c : Expr) (b : List Stmt) → stmt (s.While ns c b) ≡ number 37 ++ syms ns ++ expr c ++ list stmt b
 stmt-While ns c b =
     ap stmt (sym (s.rolls-While ns c b))
     ∙ fold-roll-Stmt Bytes Bytes Bytes Bytes Bytes Bytes part_step payload_step stmt_step tree_step body_step def_step (Stmt-F.While ns c b)
-    ∙ ap (λ l. number 37 ++ syms ns ++ expr c ++ l) (parts-map stmt b)
+    ∙ ap (λ l. number 37 ++ syms ns ++ expr c ++ l) (parts-is stmt b)
 
 pub stmt-For : (x : Sym) (v : Expr) (w : Expr) (ns : List Sym) (b : List Stmt) → stmt (s.For x v w ns b) ≡ number 38 ++ name x ++ expr v ++ expr w ++ syms ns ++ list stmt b
 stmt-For x v w ns b =
     ap stmt (sym (s.rolls-For x v w ns b))
     ∙ fold-roll-Stmt Bytes Bytes Bytes Bytes Bytes Bytes part_step payload_step stmt_step tree_step body_step def_step (Stmt-F.For x v w ns b)
-    ∙ ap (λ l. number 38 ++ name x ++ expr v ++ expr w ++ syms ns ++ l) (parts-map stmt b)
+    ∙ ap (λ l. number 38 ++ name x ++ expr v ++ expr w ++ syms ns ++ l) (parts-is stmt b)
 
 pub stmt-Break : stmt s.Break ≡ number 39
 stmt-Break =
@@ -74,19 +74,19 @@ stmt-Return v =
     ap stmt (sym (s.rolls-Return v))
     ∙ fold-roll-Stmt Bytes Bytes Bytes Bytes Bytes Bytes part_step payload_step stmt_step tree_step body_step def_step (Stmt-F.Return v)
 
-pub stmt-Eval : (m : Sym) (p : Part) → stmt (s.Eval m p) ≡ number 42 ++ name m ++ part p
+pub stmt-Eval : (m : Sym) (p : Part) → stmt (s.Eval m p) ≡ number 42 ++ name m ++ part_bytes p
 stmt-Eval m p =
     ap stmt (sym (s.rolls-Eval m p))
     ∙ fold-roll-Stmt Bytes Bytes Bytes Bytes Bytes Bytes part_step payload_step stmt_step tree_step body_step def_step (Stmt-F.Eval m p)
 
-pub part-Number : (n : ℕ) → part (p.Number n) ≡ number n
+pub part-Number : (n : ℕ) → part_bytes (p.Number n) ≡ number n
 part-Number n =
-    ap part (sym (p.rolls-Number n))
+    ap part_bytes (sym (p.rolls-Number n))
     ∙ fold-roll-Part Bytes Bytes Bytes Bytes Bytes Bytes part_step payload_step stmt_step tree_step body_step def_step (Part-F.Number n)
 
-pub part-Held : (h : TreeNode) → part (p.Held h) ≡ []
+pub part-Held : (h : TreeNode) → part_bytes (p.Held h) ≡ []
 part-Held h =
-    ap part (sym (p.rolls-Held h))
+    ap part_bytes (sym (p.rolls-Held h))
     ∙ fold-roll-Part Bytes Bytes Bytes Bytes Bytes Bytes part_step payload_step stmt_step tree_step body_step def_step (Part-F.Held h)
 
 pub payload-Def : (d : DefTree) → payload (y.Def d) ≡ definition d
@@ -117,9 +117,9 @@ tree-Payload q =
 pub body-parts : (b : Body) → body b ≡ number 67 ++ syms b.params ++ syms b.introduced ++ list stmt b.block
 body-parts b =
     fold_out-Body Bytes Bytes Bytes Bytes Bytes Bytes part_step payload_step stmt_step tree_step body_step def_step b
-    ∙ ap (λ l. number 67 ++ syms b.params ++ syms b.introduced ++ l) (parts-map stmt b.block)
+    ∙ ap (λ l. number 67 ++ syms b.params ++ syms b.introduced ++ l) (parts-is stmt b.block)
 
-pub definition-parts : (d : DefTree) → definition d ≡ number 64 ++ name d.«module» ++ name d.fun ++ params d.params ++ part d.body
+pub definition-parts : (d : DefTree) → definition d ≡ number 64 ++ name d.«module» ++ name d.fun ++ params d.params ++ part_bytes d.body
 definition-parts d = fold_out-DefTree Bytes Bytes Bytes Bytes Bytes Bytes part_step payload_step stmt_step tree_step body_step def_step d
 
 pub ruleset tree_spelling = (stmt-Value, stmt-SetLocal, stmt-SetGlobal, stmt-SetField, stmt-If, stmt-While, stmt-For, stmt-Break, stmt-Continue, stmt-Return, stmt-Eval, part-Number, part-Held, payload-Def, payload-SetBinding, payload-Value, tree-Body, tree-Payload, body-parts, definition-parts, append_assoc)

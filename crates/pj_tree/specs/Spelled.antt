@@ -6,9 +6,6 @@ use Rattle.pj_tree.specs.declared.tree.Body.{Body}
 use Rattle.pj_tree.specs.declared.tree.DefTree.{DefTree}
 use Rattle.pj_tree.specs.declared.tree.Part.TheFolds.{fold-Part, fold-Payload, fold-Body, fold-DefTree}
 
-abbrev pub part : Part → Bytes
-part = fold-Part Bytes Bytes Bytes Bytes Bytes Bytes part_step payload_step stmt_step tree_step body_step def_step
-
 abbrev pub payload : Payload → Bytes
 payload = fold-Payload Bytes Bytes Bytes Bytes Bytes Bytes part_step payload_step stmt_step tree_step body_step def_step
 

@@ -1,9 +1,9 @@
 //! Trees to bytes.
 
-ghost use Rattle.std.specs.Prelude.{◌≡◌, ◌++◌, ◌<◌, ◌^◌, OnOk, length};
+ghost use Rattle.std.specs.Prelude.{◌≡◌, ◌++◌, ◌<◌, ◌^◌, OnOk, OnErr, length};
 ghost use Rattle.pj_fields.specs.Fields.{list};
-ghost use Rattle.pj_tree.specs.Bytes.{sym, syms, param, params, expr, stmt, tree};
-ghost use Rattle.pj_tree.specs.Spelled.{part, payload, body, definition};
+ghost use Rattle.pj_tree.specs.Bytes.{sym, syms, param, params, part_bytes, expr, stmt, tree};
+ghost use Rattle.pj_tree.specs.Spelled.{payload, body, definition};
 ghost use Rattle.pj_tree.specs.Fits.{ListFits, ExprFits, ExprNodeFits, StmtFits, StmtNodeFits, DefNodeFits, PayloadNodeFits, BodyNodeFits, TreeFits};
 ghost use Rattle.pj_tree.specs.declared.tree.Expr.{out-Expr};
 ghost use Rattle.pj_tree.specs.declared.tree.Stmt.{out-Stmt};
@@ -13,6 +13,7 @@ ghost use Rattle.pj_tree.specs.declared.tree.DefTree.{out-DefTree};
 
 use crate::tree::{Body, DefTree, Expr, Param, Part, Payload, Stmt, Sym, TreeNode};
 use pj_base::{ByteList, NoMemory};
+use std::alloc::Global;
 use pj_fields::{put_int, put_number};
 
 /// A name. A tree that fits has none as a text.
@@ -160,7 +161,7 @@ fn put_params(all: &[Param], out: &mut ByteList) -> Result<(), NoMemory>
 /// The number of a tree. A tree that fits holds none itself.
 #[tactic(auto, using(crate::proofs::TreeSpelling::tree_spelling))]
 fn put_part(p: &Part, out: &mut ByteList) -> Result<(), NoMemory>
-    ensures { OnOk result (out.new ≡ out.old ++ part p.now) }
+    ensures { OnOk result (out.new ≡ out.old ++ part_bytes p.now) }
 {
     match p {
         Part::Number(number) => put_number(*number, out),
@@ -297,15 +298,25 @@ fn put_body(below: u32, b: &Body, out: &mut ByteList) -> Result<(), NoMemory>
     put_block(below, b.block.as_slice(), out)
 }
 
-/// Adds the bytes of a tree at the end. The tree has numbers for names and for the trees that it names, it nests at most
-/// 128 deep, and no list in it has more than 4,294,967,295 members.
 #[tactic(auto, using(crate::proofs::TreeSpelling::tree_spelling), unfolding(crate::specs::Fits::TreeFitsBelow))]
-pub fn encode_tree(body: &TreeNode, out: &mut ByteList) -> Result<(), NoMemory>
-    requires fits { TreeFits body.now }
+fn put_tree(body: &TreeNode, out: &mut ByteList) -> Result<(), NoMemory>
+    requires { TreeFits body.now }
     ensures { OnOk result (out.new ≡ out.old ++ tree body.now) }
 {
     match body {
         TreeNode::Body(body) => put_body(127, body, out),
         TreeNode::Payload(payload) => put_payload(127, payload, out),
     }
+}
+
+/// Adds the bytes of a tree at the end. The tree has numbers for names and for the trees that it names, it nests at most
+/// 128 deep, and no list in it has more than 4,294,967,295 members. Without memory nothing changes.
+pub fn encode_tree(alloc: Global, body: &TreeNode, out: &mut ByteList) -> Result<(), NoMemory>
+    requires fits { TreeFits body.now }
+    ensures put { OnOk result (out.new ≡ out.old ++ tree body.now) }
+    ensures unchanged { OnErr result (out.new ≡ out.old) }
+{
+    let mut bytes = ByteList::new(alloc);
+    put_tree(body, &mut bytes)?;
+    out.extend(bytes.as_slice())
 }

@@ -73,7 +73,7 @@ fn tree_at(alloc: Global, bytes: &[u8], at: usize) -> Result<Option<(ByteList, u
     match decode_tree(alloc, bytes, at) {
         Ok((tree, end)) => {
             let mut out = ByteList::new(alloc);
-            encode_tree(&tree, &mut out)?;
+            encode_tree(alloc, &tree, &mut out)?;
             Ok(Some((out, end)))
         }
         Err(TreeFault::Bad) => Ok(None),
