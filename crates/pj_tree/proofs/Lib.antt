@@ -11,3 +11,8 @@ pub mod StmtLaws
 pub mod TreeLaws
 pub mod Depends
 pub mod Appended
+pub mod LaidParts
+pub mod LaidLists
+pub mod Counting
+pub mod NamedParts
+pub mod Laid

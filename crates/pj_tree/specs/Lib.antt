@@ -8,3 +8,4 @@ pub mod Scopes
 pub mod RowsScopes
 pub mod Named
 pub mod ReadingLaws
+pub mod Numbering

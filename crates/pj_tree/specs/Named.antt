@@ -1,5 +1,5 @@
 -- The numbers of the trees that a tree names, in order.
-use Rattle.std.specs.Prelude.{◌≡◌, ◌≤◌, ◌<◌, ⊤, ℕ, suc, List, [], ◌∷◌, ◌++◌}
+use Rattle.std.specs.Prelude.{◌≡◌, ◌≤◌, ◌<◌, ⊤, ℕ, suc, List, [], ◌∷◌, ◌++◌, ◌+◌, ◌==◌, ◌&&◌, if◌then◌else◌, map, nat_le, nat_lt}
 use Rattle.pj_tree.specs.Reads.{Parts}
 use Rattle.pj_tree.specs.declared.tree.Stmt.{Stmt}
 use Rattle.pj_tree.specs.declared.tree.Part.{Part}
@@ -80,3 +80,16 @@ AllBetween low high (n ∷ ns) = (low ≤ n) × ((n < high) × AllBetween low hi
 abbrev pub NameLater : ℕ → ℕ → List TreeNode → Type 0
 NameLater n after [] = ⊤
 NameLater n after (t ∷ later) = AllBetween (suc n) after (named_by_node t) × NameLater (suc n) after later
+
+-- how often a number stands among these
+abbrev pub count : ℕ → Numbers → ℕ
+count k [] = 0
+count k (n ∷ ns) = (if n == k then 1 else 0) + count k ns
+
+-- all the numbers that trees name
+abbrev pub named_by_all : List TreeNode → Numbers
+named_by_all trees = together (map named_by_node trees)
+
+-- each number from one up to another stands once, and no other
+abbrev pub EachOnce : ℕ → ℕ → Numbers → Type 0
+EachOnce low high ns = (k : ℕ) → count k ns ≡ (if nat_le low k && nat_lt k high then 1 else 0)

@@ -13,8 +13,8 @@ ghost use Rattle.pj_tree.specs.declared.tree.DefTree.{out-DefTree};
 
 use crate::tree::{Body, DefTree, Expr, Param, Part, Payload, Stmt, Sym, TreeNode};
 use pj_base::{ByteList, NoMemory};
-use std::alloc::Global;
 use pj_fields::{put_int, put_number};
+use std::alloc::Global;
 
 /// A name. A tree that fits has none as a text.
 fn put_sym(name: &Sym, out: &mut ByteList) -> Result<(), NoMemory>

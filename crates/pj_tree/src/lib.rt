@@ -6,11 +6,13 @@ pub mod expression_copy;
 pub mod fault;
 pub mod item;
 pub mod item_copy;
+pub mod numbering;
 mod reading;
 pub mod reading_laws;
 pub mod scope_rows;
 pub mod tree;
 pub mod tree_copy;
+pub mod tree_list;
 
 pub use encode::encode_tree;
 pub use expression_copy::{
@@ -27,3 +29,4 @@ pub use tree::{
 pub use tree_copy::{
     copy_block, copy_body, copy_def, copy_part, copy_payload, copy_stmt, copy_tree,
 };
+pub use tree_list::TreeList;

@@ -1,3 +1,4 @@
+use Rattle.pj_tree.proofs.Laid.{numbered_well}
 use Rattle.pj_tree.proofs.Depends.{same_where_named}
 use Rattle.pj_tree.proofs.Appended.{parts_of-older, parts_of-newer}
 use Rattle.pj_tree.proofs.reading_laws.reading_laws.Goals as goal
