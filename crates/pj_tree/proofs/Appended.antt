@@ -1,9 +1,9 @@
 -- Trees that are appended leave the meaning of the older ones as it was.
-use Rattle.std.proofs.Common.{◌≡◌, ◌<◌, ◌≤◌, ◌+◌, refl, ap, ◌∙◌, subst, ℕ, zero, suc, List, [], ◌∷◌, ◌++◌, length, arith}
+use Rattle.std.proofs.Common.{◌≡◌, ◌<◌, ◌+◌, refl, ap, ◌∙◌, subst, ℕ, zero, suc, List, [], ◌∷◌, ◌++◌, length, arith}
 use Rattle.pj_tree.specs.Reads.{Strings, Meant, numbered, nodes_of, parts_of}
 use Rattle.pj_tree.specs.Named.{Numbers, Agree, AllBetween, NameLater, named_by_node}
 use Rattle.pj_tree.specs.declared.tree.TreeNode.{TreeNode}
-use Rattle.pj_tree.proofs.NumberReads.{numbered-older, numbered-newer, length-nodes_of}
+use Rattle.pj_tree.proofs.NumberReads.{numbered-older, length-nodes_of}
 use Rattle.pj_tree.proofs.Depends.{same_where_named}
 
 agree_older : (n : ℕ) (xs ys : List Meant) (ns : Numbers) → AllBetween n (n + length xs) ns → Agree (numbered n (xs ++ ys)) (numbered n xs) ns
@@ -28,13 +28,3 @@ parts_of-older strings older newer k h below =
     let new = nodes_of strings (length older) newer in
     let within : k < zero + length old = omega (arith, below, length-nodes_of strings zero older) in
     ap (λ ms. numbered zero ms k) (nodes_of-append strings zero (length older) older newer (omega arith) h) ∙ numbered-older zero old new k (omega arith) within
-
-pub parts_of-newer : (strings : Strings) (older newer : List TreeNode) (k : ℕ) → NameLater zero (length older) older → length older ≤ k →
-    parts_of strings (older ++ newer) k ≡ numbered (length older) (nodes_of strings (length older) newer) k
-parts_of-newer strings older newer k h above =
-    let old = nodes_of strings zero older in
-    let new = nodes_of strings (length older) newer in
-    let same : zero + length old ≡ length older = omega (arith, length-nodes_of strings zero older) in
-    let beyond : zero + length old ≤ k = omega (arith, above, length-nodes_of strings zero older) in
-    ap (λ ms. numbered zero ms k) (nodes_of-append strings zero (length older) older newer (omega arith) h)
-    ∙ (numbered-newer zero old new k beyond ∙ ap (λ n. numbered n new k) same)

@@ -1,5 +1,5 @@
 -- Bounds and counts of the numbers that trees name, where lists are put together.
-use Rattle.std.proofs.Common.{◌≡◌, refl, sym, ap, ◌∙◌, ◌<◌, ◌≤◌, ◌+◌, ◌&&◌, if◌then◌else◌, nat_le, nat_lt, ℕ, zero, suc, List, [], ◌∷◌, ◌++◌, map, length, arith, append_assoc, length-append, subst, nat_eq}
+use Rattle.std.proofs.Common.{◌≡◌, refl, sym, ap, ◌∙◌, ◌≤◌, ◌+◌, ◌&&◌, if◌then◌else◌, nat_le, nat_lt, ℕ, zero, suc, List, [], ◌∷◌, ◌++◌, map, length, arith, append_assoc, subst, nat_eq}
 use Rattle.std.proofs.lemmas.List.{map-append}
 use Rattle.pj_tree.specs.Named.{Numbers, together, AllBetween, NameLater, count, named_by_node, named_by_all}
 use Rattle.pj_tree.specs.declared.tree.TreeNode.{TreeNode}

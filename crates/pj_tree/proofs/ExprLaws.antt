@@ -1,5 +1,5 @@
 -- The two laws of expressions.
-use Rattle.std.proofs.Common.{◌≡◌, ℕ, zero, suc, List, [], ◌++◌, Some, refl, sym, ap, subst, ◌∙◌, arith}
+use Rattle.std.proofs.Common.{◌≡◌, ℕ, zero, suc, List, [], ◌++◌, Some, refl, sym, subst, ◌∙◌, arith}
 use Rattle.std.specs.Prelude.{ℤ, FitsSigned}
 use Rattle.std.specs.Int.{w64}
 use Rattle.std.proofs.lemmas.List.{append-nil}
@@ -10,12 +10,11 @@ use Rattle.pj_tree.specs.declared.tree.Expr.{Expr, out-Expr, roll-Expr}
 use Rattle.pj_tree.specs.declared.tree.Expr.TheVariants as e
 use Rattle.pj_tree.specs.declared.tree.Expr.TheOpen.{Expr-F}
 use Rattle.pj_tree.specs.declared.tree.Expr.TheViews.{roll-out-Expr}
-use Rattle.pj_tree.specs.declared.tree.Expr.TheFolds.{fold-roll-Expr}
-use Rattle.pj_tree.specs.Bytes.{Bytes, sym as sym_bytes, expr, expr_step}
+use Rattle.pj_tree.specs.Bytes.{sym as sym_bytes, expr}
 use Rattle.pj_tree.specs.Fits.{ListFits, SymFits, ExprNodeFits, ExprFits}
 use Rattle.pj_tree.specs.Reading.{sym_at, expr_rows, expr_node_at, expr_at}
 use Rattle.pj_tree.proofs.Spelling.{expr-Nothing, expr-False, expr-True, expr-Int, expr-Str, expr-Local, expr-Global, expr-Field, expr-Call, expr-CallLocal, expr-Latest, expr-And, expr-Or, expr-Cond, expr-Same}
-use Rattle.pj_tree.proofs.NameLaws.{parts-is, sym_laws, assoc-2, assoc-3}
+use Rattle.pj_tree.proofs.NameLaws.{sym_laws, assoc-2, assoc-3}
 
 abbrev NodeFits : (Expr → Type 0) → Expr → Type 0
 NodeFits P x = ExprNodeFits P (out-Expr x)

@@ -1,16 +1,13 @@
 -- What numbering leaves: the numbers that it gives, what names them, and that nothing means other than it did.
-use Rattle.std.proofs.Common.{◌≡◌, refl, sym, ap, ◌∙◌, subst, ◌<◌, ◌≤◌, ◌+◌, ℕ, zero, suc, List, [], ◌∷◌, ◌++◌, map, length, arith, length-append}
+use Rattle.std.proofs.Common.{◌≡◌, refl, sym, ap, ◌∙◌, subst, ◌≤◌, ◌+◌, ℕ, suc, List, [], ◌∷◌, ◌++◌, map, length, arith, length-append}
 use Rattle.std.specs.Bool.{⊤}
 use Rattle.pj_meaning.specs.Tree as tree
 use Rattle.pj_tree.specs.Reads.{Strings, Parts, Meant, OfBody, OfPayload, Defined, define, as_body, as_payload, text_of_sym, texts_of, params_of, expr_of, block_of, part_layer, payload_layer, stmt_layer, node_layer, body_layer, def_layer, part_of, payload_of, stmt_of, node_of, body_of, def_of}
 use Rattle.pj_tree.specs.Named.{Numbers, together, AllBetween, NameLater, count, named_by_all, part_names, payload_names, stmt_names, node_names, body_names, def_names, named_by_part, named_by_payload, named_by_stmt, named_by_node, named_by_body, named_by_def}
 use Rattle.pj_tree.specs.Numbering.{Laid, From, nothing_named, made, both, all, held, part_from, payload_from, stmt_from, node_from, body_from, def_from, numbered_part, numbered_payload, numbered_stmt, numbered_node, numbered_body, numbered_def}
-use Rattle.pj_tree.specs.declared.tree.Sym.{Sym}
-use Rattle.pj_tree.specs.declared.tree.Expr.{Expr}
 use Rattle.pj_tree.specs.declared.tree.Stmt.{Stmt}
 use Rattle.pj_tree.specs.declared.tree.Stmt.TheVariants as stmt
 use Rattle.pj_tree.specs.declared.tree.Part.{Part}
-use Rattle.pj_tree.specs.declared.tree.Part.TheVariants as part
 use Rattle.pj_tree.specs.declared.tree.TreeNode.{TreeNode}
 use Rattle.pj_tree.specs.declared.tree.TreeNode.TheVariants as node
 use Rattle.pj_tree.specs.declared.tree.Body.{Body}
@@ -63,15 +60,15 @@ module _ (strings : Strings) where
       ((x : A) → name (make x) ≡ named x) → ((q : Parts) (x : A) → mean q (make x) ≡ lift (meaning q x)) →
       AllFine named meaning from meant → AllFine name mean (made make from) (λ p. lift (meant p))
   fine-made named meaning from meant name mean make lift names means fine n =
-    let f = fine n in
-    let r = from n in
-    record {
-      next = f.next;
-      between = rw (names r.laid) f.between;
-      ordered = f.ordered;
-      once = λ k. rw (names r.laid) (f.once k);
-      same = λ p q h. means q r.laid ∙ ap lift (f.same p q h);
-    }
+      let f = fine n in
+      let r = from n in
+      record {
+        next = f.next;
+        between = rw (names r.laid) f.between;
+        ordered = f.ordered;
+        once = λ k. rw (names r.laid) (f.once k);
+        same = λ p q h. means q r.laid ∙ ap lift (f.same p q h);
+      }
 
   fine-both : {A B C M N O : Type 0} (named : A → Numbers) (meaning : Parts → A → M) (one : From A) (meant : Parts → M)
       (named_two : B → Numbers) (meaning_two : Parts → B → N) (two : From B) (meant_two : Parts → N)
@@ -79,43 +76,43 @@ module _ (strings : Strings) where
       ((x : A) (y : B) → name (make x y) ≡ named x ++ named_two y) → ((q : Parts) (x : A) (y : B) → mean q (make x y) ≡ lift (meaning q x) (meaning_two q y)) →
       AllFine named meaning one meant → AllFine named_two meaning_two two meant_two → AllFine name mean (both make one two) (λ p. lift (meant p) (meant_two p))
   fine-both named meaning one meant named_two meaning_two two meant_two name mean make lift names means fine fine_two n =
-    let r = one n in
-    let f = fine n in
-    let m = r.next in
-    let s = two m in
-    let g = fine_two m in
-    let from : n ≤ m = omega (arith, f.next) in
-    let to : m ≤ s.next = omega (arith, g.next) in
-    let start : m ≡ n + length r.later = f.next in
-    record {
-      next = let l = length-append r.later s.later in omega (arith, f.next, g.next, l);
-      between = rw (names r.laid s.laid) (between-both n s.next (named r.laid) (named_two s.laid) (between-wider n m n s.next (named r.laid) (omega arith) to f.between) (between-wider m s.next n s.next (named_two s.laid) from (omega arith) g.between));
-      ordered = later-both n s.next r.later s.later (later-wider n m s.next r.later to f.ordered) (subst (λ k. NameLater k s.next s.later) start g.ordered);
-      once = λ k.
-        let a = f.once k in
-        let b = g.once k in
-        let c = count-both k (named r.laid) (named_two s.laid) in
-        let d = count-all-both k r.later s.later in
-        let e = within-both n m s.next k from to in
-        rw (names r.laid s.laid) (omega (arith, a, b, c, d, e));
-      same = λ p q h. means q r.laid s.laid ∙ (ap (λ x. lift x (meaning_two q s.laid)) (f.same p q (holds-front q n r.later s.later h)) ∙ ap (lift (meant p)) (g.same p q (holds-back q n m r.later s.later start h)));
-    }
+      let r = one n in
+      let f = fine n in
+      let m = r.next in
+      let s = two m in
+      let g = fine_two m in
+      let from : n ≤ m = omega (arith, f.next) in
+      let to : m ≤ s.next = omega (arith, g.next) in
+      let start : m ≡ n + length r.later = f.next in
+      record {
+        next = let l = length-append r.later s.later in omega (arith, f.next, g.next, l);
+        between = rw (names r.laid s.laid) (between-both n s.next (named r.laid) (named_two s.laid) (between-wider n m n s.next (named r.laid) (omega arith) to f.between) (between-wider m s.next n s.next (named_two s.laid) from (omega arith) g.between));
+        ordered = later-both n s.next r.later s.later (later-wider n m s.next r.later to f.ordered) (subst (λ k. NameLater k s.next s.later) start g.ordered);
+        once = λ k.
+            let a = f.once k in
+            let b = g.once k in
+            let c = count-both k (named r.laid) (named_two s.laid) in
+            let d = count-all-both k r.later s.later in
+            let e = within-both n m s.next k from to in
+            rw (names r.laid s.laid) (omega (arith, a, b, c, d, e));
+        same = λ p q h. means q r.laid s.laid ∙ (ap (λ x. lift x (meaning_two q s.laid)) (f.same p q (holds-front q n r.later s.later h)) ∙ ap (lift (meant p)) (g.same p q (holds-back q n m r.later s.later start h)));
+      }
 
   fine-held : (from : From TreeNode) (meant : Parts → Meant) → AllFine named_by_node (node_of strings) from meant → AllFine named_by_part (part_of strings) (held from) meant
   fine-held from meant fine n =
-    let r = from (suc n) in
-    let f = fine (suc n) in
-    record {
-      next = omega (arith, f.next);
-      between = rw (NamedParts.part-Number n) (omega arith, (omega (arith, f.next), _));
-      ordered = (f.between, f.ordered);
-      once = λ k.
-        let a = f.once k in
-        let b = count-both k (named_by_node r.laid) (named_by_all r.later) in
-        let c = within-first n r.next k (omega (arith, f.next)) in
-        rw (NamedParts.part-Number n) (omega (arith, a, b, c));
-      same = λ p q h. part_of-Number strings q n ∙ (h.0 ∙ f.same p q h.1);
-    }
+      let r = from (suc n) in
+      let f = fine (suc n) in
+      record {
+        next = omega (arith, f.next);
+        between = rw (NamedParts.part-Number n) (omega arith, (omega (arith, f.next), _));
+        ordered = (f.between, f.ordered);
+        once = λ k.
+            let a = f.once k in
+            let b = count-both k (named_by_node r.laid) (named_by_all r.later) in
+            let c = within-first n r.next k (omega (arith, f.next)) in
+            rw (NamedParts.part-Number n) (omega (arith, a, b, c));
+        same = λ p q h. part_of-Number strings q n ∙ (h.0 ∙ f.same p q h.1);
+      }
 
   abbrev PartFine : Part → Type 0
   PartFine t = named_by_part t ≡ [] → AllFine named_by_part (part_of strings) (numbered_part t) (λ p. part_of strings p t)
@@ -165,10 +162,10 @@ module _ (strings : Strings) where
   fine-block : (ss : List WithStmt) → block_names (bare ss) ≡ [] → AllFine block_names block_means (all (map numbered_stmt (bare ss))) (λ p. block_means p (bare ss))
   fine-block [] h = fine-none block_names block_means (λ p. tree.end) [] refl (λ p q. refl)
   fine-block (e ∷ ss) h =
-    let hs = none-both (named_by_stmt e.0) (block_names (bare ss)) h in
-    fine-both named_by_stmt (stmt_of strings) (numbered_stmt e.0) (λ p. stmt_of strings p e.0)
-    block_names block_means (all (map numbered_stmt (bare ss))) (λ p. block_means p (bare ss))
-    block_names block_means (λ x xs. x ∷ xs) (λ x xs. tree.step x xs) (λ x y. refl) (λ q x y. refl) (e.1 hs.0) (fine-block ss hs.1)
+      let hs = none-both (named_by_stmt e.0) (block_names (bare ss)) h in
+      fine-both named_by_stmt (stmt_of strings) (numbered_stmt e.0) (λ p. stmt_of strings p e.0)
+      block_names block_means (all (map numbered_stmt (bare ss))) (λ p. block_means p (bare ss))
+      block_names block_means (λ x xs. x ∷ xs) (λ x xs. tree.step x xs) (λ x y. refl) (λ q x y. refl) (e.1 hs.0) (fine-block ss hs.1)
 
   abbrev bare_part : Part-F WithPart WithPayload WithStmt WithNode WithBody WithDef → Part-F Part Payload Stmt TreeNode Body DefTree
   bare_part y = map-Part WithPart WithPayload WithStmt WithNode WithBody WithDef Part Payload Stmt TreeNode Body DefTree (λ e. e.0) (λ e. e.0) (λ e. e.0) (λ e. e.0) (λ e. e.0) (λ e. e.0) y
@@ -188,15 +185,15 @@ module _ (strings : Strings) where
 
   step_part : (x : Part-F Part Payload Stmt TreeNode Body DefTree) (y : Part-F WithPart WithPayload WithStmt WithNode WithBody WithDef) → bare_part y ≡ x → PartFine (roll-Part x)
   step_part x y is = subst (λ z. PartFine (roll-Part z)) is (λ h n.
-    let f = layer_part y (sym (fold-roll-Part Numbers Numbers Numbers Numbers Numbers Numbers part_names payload_names stmt_names node_names body_names def_names (bare_part y)) ∙ h) n in
-    let e = fold-roll-Part (From Part) (From Payload) (From Stmt) (From TreeNode) (From Body) (From DefTree) part_from payload_from stmt_from node_from body_from def_from (bare_part y) in
-    rw e (record {
-      next = f.next;
-      between = f.between;
-      ordered = f.ordered;
-      once = f.once;
-      same = λ p q holds. f.same p q holds ∙ sym (fold-roll-Part Meant tree.Payload tree.Stmt Meant tree.Body Defined (part_layer p) (payload_layer strings) (stmt_layer strings) node_layer (body_layer strings) (def_layer strings) (bare_part y));
-    }))
+      let f = layer_part y (sym (fold-roll-Part Numbers Numbers Numbers Numbers Numbers Numbers part_names payload_names stmt_names node_names body_names def_names (bare_part y)) ∙ h) n in
+      let e = fold-roll-Part (From Part) (From Payload) (From Stmt) (From TreeNode) (From Body) (From DefTree) part_from payload_from stmt_from node_from body_from def_from (bare_part y) in
+      rw e (record {
+        next = f.next;
+        between = f.between;
+        ordered = f.ordered;
+        once = f.once;
+        same = λ p q holds. f.same p q holds ∙ sym (fold-roll-Part Meant tree.Payload tree.Stmt Meant tree.Body Defined (part_layer p) (payload_layer strings) (stmt_layer strings) node_layer (body_layer strings) (def_layer strings) (bare_part y));
+      }))
 
   abbrev bare_payload : Payload-F WithPart WithPayload WithStmt WithNode WithBody WithDef → Payload-F Part Payload Stmt TreeNode Body DefTree
   bare_payload y = map-Payload WithPart WithPayload WithStmt WithNode WithBody WithDef Part Payload Stmt TreeNode Body DefTree (λ e. e.0) (λ e. e.0) (λ e. e.0) (λ e. e.0) (λ e. e.0) (λ e. e.0) y
@@ -212,26 +209,26 @@ module _ (strings : Strings) where
 
   layer_payload : (y : Payload-F WithPart WithPayload WithStmt WithNode WithBody WithDef) → payload_named y ≡ [] → AllFine named_by_payload (payload_of strings) (payload_numbered y) (payload_means y)
   layer_payload (Payload-F.Def e) h =
-    fine-made named_by_def (def_of strings) (numbered_def e.0) (λ p. def_of strings p e.0) named_by_payload (payload_of strings) payload.Def define
-    NamedParts.payload-Def (λ q d. payload_of-Def strings q d) (e.1 h)
+      fine-made named_by_def (def_of strings) (numbered_def e.0) (λ p. def_of strings p e.0) named_by_payload (payload_of strings) payload.Def define
+      NamedParts.payload-Def (λ q d. payload_of-Def strings q d) (e.1 h)
   layer_payload (Payload-F.SetBinding x e) h =
-    fine-none named_by_payload (payload_of strings) (λ p. tree.SetBinding (text_of_sym strings x) (expr_of strings e)) (payload.SetBinding x e)
-    (NamedParts.payload-SetBinding x e) (λ p q. payload_of-SetBinding strings q x e)
+      fine-none named_by_payload (payload_of strings) (λ p. tree.SetBinding (text_of_sym strings x) (expr_of strings e)) (payload.SetBinding x e)
+      (NamedParts.payload-SetBinding x e) (λ p q. payload_of-SetBinding strings q x e)
   layer_payload (Payload-F.Payload::Value e) h =
-    fine-none named_by_payload (payload_of strings) (λ p. tree.Evaluate (expr_of strings e)) (payload.Value e)
-    (NamedParts.payload-Value e) (λ p q. payload_of-Value strings q e)
+      fine-none named_by_payload (payload_of strings) (λ p. tree.Evaluate (expr_of strings e)) (payload.Value e)
+      (NamedParts.payload-Value e) (λ p q. payload_of-Value strings q e)
 
   step_payload : (x : Payload-F Part Payload Stmt TreeNode Body DefTree) (y : Payload-F WithPart WithPayload WithStmt WithNode WithBody WithDef) → bare_payload y ≡ x → PayloadFine (roll-Payload x)
   step_payload x y is = subst (λ z. PayloadFine (roll-Payload z)) is (λ h n.
-    let f = layer_payload y (sym (fold-roll-Payload Numbers Numbers Numbers Numbers Numbers Numbers part_names payload_names stmt_names node_names body_names def_names (bare_payload y)) ∙ h) n in
-    let e = fold-roll-Payload (From Part) (From Payload) (From Stmt) (From TreeNode) (From Body) (From DefTree) part_from payload_from stmt_from node_from body_from def_from (bare_payload y) in
-    rw e (record {
-      next = f.next;
-      between = f.between;
-      ordered = f.ordered;
-      once = f.once;
-      same = λ p q holds. f.same p q holds ∙ sym (fold-roll-Payload Meant tree.Payload tree.Stmt Meant tree.Body Defined (part_layer p) (payload_layer strings) (stmt_layer strings) node_layer (body_layer strings) (def_layer strings) (bare_payload y));
-    }))
+      let f = layer_payload y (sym (fold-roll-Payload Numbers Numbers Numbers Numbers Numbers Numbers part_names payload_names stmt_names node_names body_names def_names (bare_payload y)) ∙ h) n in
+      let e = fold-roll-Payload (From Part) (From Payload) (From Stmt) (From TreeNode) (From Body) (From DefTree) part_from payload_from stmt_from node_from body_from def_from (bare_payload y) in
+      rw e (record {
+        next = f.next;
+        between = f.between;
+        ordered = f.ordered;
+        once = f.once;
+        same = λ p q holds. f.same p q holds ∙ sym (fold-roll-Payload Meant tree.Payload tree.Stmt Meant tree.Body Defined (part_layer p) (payload_layer strings) (stmt_layer strings) node_layer (body_layer strings) (def_layer strings) (bare_payload y));
+      }))
 
   abbrev bare_stmt : Stmt-F WithPart WithPayload WithStmt WithNode WithBody WithDef → Stmt-F Part Payload Stmt TreeNode Body DefTree
   bare_stmt y = map-Stmt WithPart WithPayload WithStmt WithNode WithBody WithDef Part Payload Stmt TreeNode Body DefTree (λ e. e.0) (λ e. e.0) (λ e. e.0) (λ e. e.0) (λ e. e.0) (λ e. e.0) y
@@ -247,49 +244,49 @@ module _ (strings : Strings) where
 
   layer_stmt : (y : Stmt-F WithPart WithPayload WithStmt WithNode WithBody WithDef) → stmt_named y ≡ [] → AllFine named_by_stmt (stmt_of strings) (stmt_numbered y) (stmt_means y)
   layer_stmt (Stmt-F.Stmt::Value e) h =
-    fine-none named_by_stmt (stmt_of strings) (λ p. tree.Value (expr_of strings e)) (stmt.Value e) (NamedParts.stmt-Value e) (λ p q. stmt_of-Value strings q e)
+      fine-none named_by_stmt (stmt_of strings) (λ p. tree.Value (expr_of strings e)) (stmt.Value e) (NamedParts.stmt-Value e) (λ p q. stmt_of-Value strings q e)
   layer_stmt (Stmt-F.SetLocal x e) h =
-    fine-none named_by_stmt (stmt_of strings) (λ p. tree.SetLocal (text_of_sym strings x) (expr_of strings e)) (stmt.SetLocal x e) (NamedParts.stmt-SetLocal x e) (λ p q. stmt_of-SetLocal strings q x e)
+      fine-none named_by_stmt (stmt_of strings) (λ p. tree.SetLocal (text_of_sym strings x) (expr_of strings e)) (stmt.SetLocal x e) (NamedParts.stmt-SetLocal x e) (λ p q. stmt_of-SetLocal strings q x e)
   layer_stmt (Stmt-F.SetGlobal x e) h =
-    fine-none named_by_stmt (stmt_of strings) (λ p. tree.SetGlobal (text_of_sym strings x) (expr_of strings e)) (stmt.SetGlobal x e) (NamedParts.stmt-SetGlobal x e) (λ p q. stmt_of-SetGlobal strings q x e)
+      fine-none named_by_stmt (stmt_of strings) (λ p. tree.SetGlobal (text_of_sym strings x) (expr_of strings e)) (stmt.SetGlobal x e) (NamedParts.stmt-SetGlobal x e) (λ p q. stmt_of-SetGlobal strings q x e)
   layer_stmt (Stmt-F.SetField a x e) h =
-    fine-none named_by_stmt (stmt_of strings) (λ p. tree.SetField (expr_of strings a) (text_of_sym strings x) (expr_of strings e)) (stmt.SetField a x e) (NamedParts.stmt-SetField a x e) (λ p q. stmt_of-SetField strings q a x e)
+      fine-none named_by_stmt (stmt_of strings) (λ p. tree.SetField (expr_of strings a) (text_of_sym strings x) (expr_of strings e)) (stmt.SetField a x e) (NamedParts.stmt-SetField a x e) (λ p q. stmt_of-SetField strings q a x e)
   layer_stmt (Stmt-F.If c a b) h =
-    let hs = none-both (block_names (bare a)) (block_names (bare b)) h in
-    fine-both block_names block_means (all (map numbered_stmt (bare a))) (λ p. block_means p (bare a))
-    block_names block_means (all (map numbered_stmt (bare b))) (λ p. block_means p (bare b))
-    named_by_stmt (stmt_of strings) (stmt.If c) (tree.If (expr_of strings c))
-    (NamedParts.stmt-If c) (λ q x y. stmt_of-If strings q c x y) (fine-block a hs.0) (fine-block b hs.1)
+      let hs = none-both (block_names (bare a)) (block_names (bare b)) h in
+      fine-both block_names block_means (all (map numbered_stmt (bare a))) (λ p. block_means p (bare a))
+      block_names block_means (all (map numbered_stmt (bare b))) (λ p. block_means p (bare b))
+      named_by_stmt (stmt_of strings) (stmt.If c) (tree.If (expr_of strings c))
+      (NamedParts.stmt-If c) (λ q x y. stmt_of-If strings q c x y) (fine-block a hs.0) (fine-block b hs.1)
   layer_stmt (Stmt-F.While names c b) h =
-    fine-made block_names block_means (all (map numbered_stmt (bare b))) (λ p. block_means p (bare b))
-    named_by_stmt (stmt_of strings) (stmt.While names c) (tree.While (texts_of strings names) (expr_of strings c))
-    (NamedParts.stmt-While names c) (λ q x. stmt_of-While strings q names c x) (fine-block b h)
+      fine-made block_names block_means (all (map numbered_stmt (bare b))) (λ p. block_means p (bare b))
+      named_by_stmt (stmt_of strings) (stmt.While names c) (tree.While (texts_of strings names) (expr_of strings c))
+      (NamedParts.stmt-While names c) (λ q x. stmt_of-While strings q names c x) (fine-block b h)
   layer_stmt (Stmt-F.For x from to names b) h =
-    fine-made block_names block_means (all (map numbered_stmt (bare b))) (λ p. block_means p (bare b))
-    named_by_stmt (stmt_of strings) (stmt.For x from to names) (tree.For (text_of_sym strings x) (expr_of strings from) (expr_of strings to) (texts_of strings names))
-    (NamedParts.stmt-For x from to names) (λ q y. stmt_of-For strings q x from to names y) (fine-block b h)
+      fine-made block_names block_means (all (map numbered_stmt (bare b))) (λ p. block_means p (bare b))
+      named_by_stmt (stmt_of strings) (stmt.For x from to names) (tree.For (text_of_sym strings x) (expr_of strings from) (expr_of strings to) (texts_of strings names))
+      (NamedParts.stmt-For x from to names) (λ q y. stmt_of-For strings q x from to names y) (fine-block b h)
   layer_stmt Stmt-F.Break h =
-    fine-none named_by_stmt (stmt_of strings) (λ p. tree.Break) stmt.Break NamedParts.stmt-Break (λ p q. stmt_of-Break strings q)
+      fine-none named_by_stmt (stmt_of strings) (λ p. tree.Break) stmt.Break NamedParts.stmt-Break (λ p q. stmt_of-Break strings q)
   layer_stmt Stmt-F.Continue h =
-    fine-none named_by_stmt (stmt_of strings) (λ p. tree.Continue) stmt.Continue NamedParts.stmt-Continue (λ p q. stmt_of-Continue strings q)
+      fine-none named_by_stmt (stmt_of strings) (λ p. tree.Continue) stmt.Continue NamedParts.stmt-Continue (λ p q. stmt_of-Continue strings q)
   layer_stmt (Stmt-F.Return e) h =
-    fine-none named_by_stmt (stmt_of strings) (λ p. tree.Return (expr_of strings e)) (stmt.Return e) (NamedParts.stmt-Return e) (λ p q. stmt_of-Return strings q e)
+      fine-none named_by_stmt (stmt_of strings) (λ p. tree.Return (expr_of strings e)) (stmt.Return e) (NamedParts.stmt-Return e) (λ p q. stmt_of-Return strings q e)
   layer_stmt (Stmt-F.Eval m e) h =
-    fine-made named_by_part (part_of strings) (numbered_part e.0) (λ p. part_of strings p e.0)
-    named_by_stmt (stmt_of strings) (stmt.Eval m) (λ t. tree.Eval (text_of_sym strings m) (as_payload t))
-    (NamedParts.stmt-Eval m) (λ q x. stmt_of-Eval strings q m x) (e.1 h)
+      fine-made named_by_part (part_of strings) (numbered_part e.0) (λ p. part_of strings p e.0)
+      named_by_stmt (stmt_of strings) (stmt.Eval m) (λ t. tree.Eval (text_of_sym strings m) (as_payload t))
+      (NamedParts.stmt-Eval m) (λ q x. stmt_of-Eval strings q m x) (e.1 h)
 
   step_stmt : (x : Stmt-F Part Payload Stmt TreeNode Body DefTree) (y : Stmt-F WithPart WithPayload WithStmt WithNode WithBody WithDef) → bare_stmt y ≡ x → StmtFine (roll-Stmt x)
   step_stmt x y is = subst (λ z. StmtFine (roll-Stmt z)) is (λ h n.
-    let f = layer_stmt y (sym (fold-roll-Stmt Numbers Numbers Numbers Numbers Numbers Numbers part_names payload_names stmt_names node_names body_names def_names (bare_stmt y)) ∙ h) n in
-    let e = fold-roll-Stmt (From Part) (From Payload) (From Stmt) (From TreeNode) (From Body) (From DefTree) part_from payload_from stmt_from node_from body_from def_from (bare_stmt y) in
-    rw e (record {
-      next = f.next;
-      between = f.between;
-      ordered = f.ordered;
-      once = f.once;
-      same = λ p q holds. f.same p q holds ∙ sym (fold-roll-Stmt Meant tree.Payload tree.Stmt Meant tree.Body Defined (part_layer p) (payload_layer strings) (stmt_layer strings) node_layer (body_layer strings) (def_layer strings) (bare_stmt y));
-    }))
+      let f = layer_stmt y (sym (fold-roll-Stmt Numbers Numbers Numbers Numbers Numbers Numbers part_names payload_names stmt_names node_names body_names def_names (bare_stmt y)) ∙ h) n in
+      let e = fold-roll-Stmt (From Part) (From Payload) (From Stmt) (From TreeNode) (From Body) (From DefTree) part_from payload_from stmt_from node_from body_from def_from (bare_stmt y) in
+      rw e (record {
+        next = f.next;
+        between = f.between;
+        ordered = f.ordered;
+        once = f.once;
+        same = λ p q holds. f.same p q holds ∙ sym (fold-roll-Stmt Meant tree.Payload tree.Stmt Meant tree.Body Defined (part_layer p) (payload_layer strings) (stmt_layer strings) node_layer (body_layer strings) (def_layer strings) (bare_stmt y));
+      }))
 
   abbrev bare_node : TreeNode-F WithPart WithPayload WithStmt WithNode WithBody WithDef → TreeNode-F Part Payload Stmt TreeNode Body DefTree
   bare_node y = map-TreeNode WithPart WithPayload WithStmt WithNode WithBody WithDef Part Payload Stmt TreeNode Body DefTree (λ e. e.0) (λ e. e.0) (λ e. e.0) (λ e. e.0) (λ e. e.0) (λ e. e.0) y
@@ -305,23 +302,23 @@ module _ (strings : Strings) where
 
   layer_node : (y : TreeNode-F WithPart WithPayload WithStmt WithNode WithBody WithDef) → node_named y ≡ [] → AllFine named_by_node (node_of strings) (node_numbered y) (node_means y)
   layer_node (TreeNode-F.Body e) h =
-    fine-made named_by_body (body_of strings) (numbered_body e.0) (λ p. body_of strings p e.0) named_by_node (node_of strings) node.Body OfBody
-    NamedParts.node-Body (λ q b. node_of-Body strings q b) (e.1 h)
+      fine-made named_by_body (body_of strings) (numbered_body e.0) (λ p. body_of strings p e.0) named_by_node (node_of strings) node.Body OfBody
+      NamedParts.node-Body (λ q b. node_of-Body strings q b) (e.1 h)
   layer_node (TreeNode-F.Payload e) h =
-    fine-made named_by_payload (payload_of strings) (numbered_payload e.0) (λ p. payload_of strings p e.0) named_by_node (node_of strings) node.Payload OfPayload
-    NamedParts.node-Payload (λ q b. node_of-Payload strings q b) (e.1 h)
+      fine-made named_by_payload (payload_of strings) (numbered_payload e.0) (λ p. payload_of strings p e.0) named_by_node (node_of strings) node.Payload OfPayload
+      NamedParts.node-Payload (λ q b. node_of-Payload strings q b) (e.1 h)
 
   step_node : (x : TreeNode-F Part Payload Stmt TreeNode Body DefTree) (y : TreeNode-F WithPart WithPayload WithStmt WithNode WithBody WithDef) → bare_node y ≡ x → NodeFine (roll-TreeNode x)
   step_node x y is = subst (λ z. NodeFine (roll-TreeNode z)) is (λ h n.
-    let f = layer_node y (sym (fold-roll-TreeNode Numbers Numbers Numbers Numbers Numbers Numbers part_names payload_names stmt_names node_names body_names def_names (bare_node y)) ∙ h) n in
-    let e = fold-roll-TreeNode (From Part) (From Payload) (From Stmt) (From TreeNode) (From Body) (From DefTree) part_from payload_from stmt_from node_from body_from def_from (bare_node y) in
-    rw e (record {
-      next = f.next;
-      between = f.between;
-      ordered = f.ordered;
-      once = f.once;
-      same = λ p q holds. f.same p q holds ∙ sym (fold-roll-TreeNode Meant tree.Payload tree.Stmt Meant tree.Body Defined (part_layer p) (payload_layer strings) (stmt_layer strings) node_layer (body_layer strings) (def_layer strings) (bare_node y));
-    }))
+      let f = layer_node y (sym (fold-roll-TreeNode Numbers Numbers Numbers Numbers Numbers Numbers part_names payload_names stmt_names node_names body_names def_names (bare_node y)) ∙ h) n in
+      let e = fold-roll-TreeNode (From Part) (From Payload) (From Stmt) (From TreeNode) (From Body) (From DefTree) part_from payload_from stmt_from node_from body_from def_from (bare_node y) in
+      rw e (record {
+        next = f.next;
+        between = f.between;
+        ordered = f.ordered;
+        once = f.once;
+        same = λ p q holds. f.same p q holds ∙ sym (fold-roll-TreeNode Meant tree.Payload tree.Stmt Meant tree.Body Defined (part_layer p) (payload_layer strings) (stmt_layer strings) node_layer (body_layer strings) (def_layer strings) (bare_node y));
+      }))
 
   abbrev bare_body : Body-F WithPart WithPayload WithStmt WithNode WithBody WithDef → Body-F Part Payload Stmt TreeNode Body DefTree
   bare_body y = map-Body WithPart WithPayload WithStmt WithNode WithBody WithDef Part Payload Stmt TreeNode Body DefTree (λ e. e.0) (λ e. e.0) (λ e. e.0) (λ e. e.0) (λ e. e.0) (λ e. e.0) y
@@ -337,23 +334,23 @@ module _ (strings : Strings) where
 
   layer_body : (y : Body-F WithPart WithPayload WithStmt WithNode WithBody WithDef) → body_named y ≡ [] → AllFine named_by_body (body_of strings) (body_numbered y) (body_means y)
   layer_body y h =
-    fine-made block_names block_means (all (map numbered_stmt (bare y.block))) (λ p. block_means p (bare y.block))
-    named_by_body (body_of strings) (λ ss. roll-Body (record { params = y.params; introduced = y.introduced; block = ss })) (tree.body (texts_of strings y.params) (texts_of strings y.introduced))
-    (λ ss. fold-roll-Body Numbers Numbers Numbers Numbers Numbers Numbers part_names payload_names stmt_names node_names body_names def_names (record { params = y.params; introduced = y.introduced; block = ss }))
-    (λ q ss. fold-roll-Body Meant tree.Payload tree.Stmt Meant tree.Body Defined (part_layer q) (payload_layer strings) (stmt_layer strings) node_layer (body_layer strings) (def_layer strings) (record { params = y.params; introduced = y.introduced; block = ss }))
-    (fine-block y.block h)
+      fine-made block_names block_means (all (map numbered_stmt (bare y.block))) (λ p. block_means p (bare y.block))
+      named_by_body (body_of strings) (λ ss. roll-Body (record { params = y.params; introduced = y.introduced; block = ss })) (tree.body (texts_of strings y.params) (texts_of strings y.introduced))
+      (λ ss. fold-roll-Body Numbers Numbers Numbers Numbers Numbers Numbers part_names payload_names stmt_names node_names body_names def_names (record { params = y.params; introduced = y.introduced; block = ss }))
+      (λ q ss. fold-roll-Body Meant tree.Payload tree.Stmt Meant tree.Body Defined (part_layer q) (payload_layer strings) (stmt_layer strings) node_layer (body_layer strings) (def_layer strings) (record { params = y.params; introduced = y.introduced; block = ss }))
+      (fine-block y.block h)
 
   step_body : (x : Body-F Part Payload Stmt TreeNode Body DefTree) (y : Body-F WithPart WithPayload WithStmt WithNode WithBody WithDef) → bare_body y ≡ x → BodyFine (roll-Body x)
   step_body x y is = subst (λ z. BodyFine (roll-Body z)) is (λ h n.
-    let f = layer_body y (sym (fold-roll-Body Numbers Numbers Numbers Numbers Numbers Numbers part_names payload_names stmt_names node_names body_names def_names (bare_body y)) ∙ h) n in
-    let e = fold-roll-Body (From Part) (From Payload) (From Stmt) (From TreeNode) (From Body) (From DefTree) part_from payload_from stmt_from node_from body_from def_from (bare_body y) in
-    rw e (record {
-      next = f.next;
-      between = f.between;
-      ordered = f.ordered;
-      once = f.once;
-      same = λ p q holds. f.same p q holds ∙ sym (fold-roll-Body Meant tree.Payload tree.Stmt Meant tree.Body Defined (part_layer p) (payload_layer strings) (stmt_layer strings) node_layer (body_layer strings) (def_layer strings) (bare_body y));
-    }))
+      let f = layer_body y (sym (fold-roll-Body Numbers Numbers Numbers Numbers Numbers Numbers part_names payload_names stmt_names node_names body_names def_names (bare_body y)) ∙ h) n in
+      let e = fold-roll-Body (From Part) (From Payload) (From Stmt) (From TreeNode) (From Body) (From DefTree) part_from payload_from stmt_from node_from body_from def_from (bare_body y) in
+      rw e (record {
+        next = f.next;
+        between = f.between;
+        ordered = f.ordered;
+        once = f.once;
+        same = λ p q holds. f.same p q holds ∙ sym (fold-roll-Body Meant tree.Payload tree.Stmt Meant tree.Body Defined (part_layer p) (payload_layer strings) (stmt_layer strings) node_layer (body_layer strings) (def_layer strings) (bare_body y));
+      }))
 
   abbrev bare_def : DefTree-F WithPart WithPayload WithStmt WithNode WithBody WithDef → DefTree-F Part Payload Stmt TreeNode Body DefTree
   bare_def y = map-DefTree WithPart WithPayload WithStmt WithNode WithBody WithDef Part Payload Stmt TreeNode Body DefTree (λ e. e.0) (λ e. e.0) (λ e. e.0) (λ e. e.0) (λ e. e.0) (λ e. e.0) y
@@ -369,24 +366,24 @@ module _ (strings : Strings) where
 
   layer_def : (y : DefTree-F WithPart WithPayload WithStmt WithNode WithBody WithDef) → def_named y ≡ [] → AllFine named_by_def (def_of strings) (def_numbered y) (def_means y)
   layer_def y h =
-    fine-made named_by_part (part_of strings) (numbered_part y.body.0) (λ p. part_of strings p y.body.0)
-    named_by_def (def_of strings) (λ b. roll-DefTree (record { «module» = y.«module»; fun = y.fun; params = y.params; body = b }))
-    (λ t. record { home = text_of_sym strings y.«module»; fun = text_of_sym strings y.fun; params = params_of strings y.params; code = as_body t })
-    (λ b. fold-roll-DefTree Numbers Numbers Numbers Numbers Numbers Numbers part_names payload_names stmt_names node_names body_names def_names (record { «module» = y.«module»; fun = y.fun; params = y.params; body = b }))
-    (λ q b. fold-roll-DefTree Meant tree.Payload tree.Stmt Meant tree.Body Defined (part_layer q) (payload_layer strings) (stmt_layer strings) node_layer (body_layer strings) (def_layer strings) (record { «module» = y.«module»; fun = y.fun; params = y.params; body = b }))
-    (y.body.1 h)
+      fine-made named_by_part (part_of strings) (numbered_part y.body.0) (λ p. part_of strings p y.body.0)
+      named_by_def (def_of strings) (λ b. roll-DefTree (record { «module» = y.«module»; fun = y.fun; params = y.params; body = b }))
+      (λ t. record { home = text_of_sym strings y.«module»; fun = text_of_sym strings y.fun; params = params_of strings y.params; code = as_body t })
+      (λ b. fold-roll-DefTree Numbers Numbers Numbers Numbers Numbers Numbers part_names payload_names stmt_names node_names body_names def_names (record { «module» = y.«module»; fun = y.fun; params = y.params; body = b }))
+      (λ q b. fold-roll-DefTree Meant tree.Payload tree.Stmt Meant tree.Body Defined (part_layer q) (payload_layer strings) (stmt_layer strings) node_layer (body_layer strings) (def_layer strings) (record { «module» = y.«module»; fun = y.fun; params = y.params; body = b }))
+      (y.body.1 h)
 
   step_def : (x : DefTree-F Part Payload Stmt TreeNode Body DefTree) (y : DefTree-F WithPart WithPayload WithStmt WithNode WithBody WithDef) → bare_def y ≡ x → DefFine (roll-DefTree x)
   step_def x y is = subst (λ z. DefFine (roll-DefTree z)) is (λ h n.
-    let f = layer_def y (sym (fold-roll-DefTree Numbers Numbers Numbers Numbers Numbers Numbers part_names payload_names stmt_names node_names body_names def_names (bare_def y)) ∙ h) n in
-    let e = fold-roll-DefTree (From Part) (From Payload) (From Stmt) (From TreeNode) (From Body) (From DefTree) part_from payload_from stmt_from node_from body_from def_from (bare_def y) in
-    rw e (record {
-      next = f.next;
-      between = f.between;
-      ordered = f.ordered;
-      once = f.once;
-      same = λ p q holds. f.same p q holds ∙ sym (fold-roll-DefTree Meant tree.Payload tree.Stmt Meant tree.Body Defined (part_layer p) (payload_layer strings) (stmt_layer strings) node_layer (body_layer strings) (def_layer strings) (bare_def y));
-    }))
+      let f = layer_def y (sym (fold-roll-DefTree Numbers Numbers Numbers Numbers Numbers Numbers part_names payload_names stmt_names node_names body_names def_names (bare_def y)) ∙ h) n in
+      let e = fold-roll-DefTree (From Part) (From Payload) (From Stmt) (From TreeNode) (From Body) (From DefTree) part_from payload_from stmt_from node_from body_from def_from (bare_def y) in
+      rw e (record {
+        next = f.next;
+        between = f.between;
+        ordered = f.ordered;
+        once = f.once;
+        same = λ p q holds. f.same p q holds ∙ sym (fold-roll-DefTree Meant tree.Payload tree.Stmt Meant tree.Body Defined (part_layer p) (payload_layer strings) (stmt_layer strings) node_layer (body_layer strings) (def_layer strings) (bare_def y));
+      }))
 
   pub numbered_well : (t : TreeNode) → named_by_node t ≡ [] → AllFine named_by_node (node_of strings) (numbered_node t) (λ p. node_of strings p t)
   numbered_well = ind-TreeNode PartFine PayloadFine StmtFine NodeFine BodyFine DefFine step_part step_payload step_stmt step_node step_body step_def

@@ -1,9 +1,9 @@
 -- Numbering a list, one more at its end.
-use Rattle.std.proofs.Common.{◌≡◌, ℕ, suc, ◌+◌, ◌<◌, List, [], ◌∷◌, ◌++◌, map, take, length, refl, sym, ap, ◌∙◌, append_assoc, arith}
+use Rattle.std.proofs.Common.{◌≡◌, ℕ, suc, ◌+◌, ◌<◌, List, [], ◌∷◌, ◌++◌, map, take, length, sym, ap, ◌∙◌, append_assoc, arith}
 use Rattle.std.proofs.Math.ListN.{get_or}
 use Rattle.std.proofs.Math.Seq.{take-suc}
 use Rattle.std.proofs.lemmas.List.{append-nil, map-append}
-use Rattle.pj_tree.specs.Numbering.{From, Laid, both, all}
+use Rattle.pj_tree.specs.Numbering.{From, both, all}
 
 pub all-last : {A : Type 0} (fs : List (From A)) (f : From A) (n : ℕ) → all (fs ++ f ∷ []) n ≡ both (λ xs x. xs ++ x ∷ []) (all fs) f n
 all-last [] f n = ap (λ l. record { laid = (f n).laid ∷ []; later = l; next = (f n).next }) (append-nil (f n).later)

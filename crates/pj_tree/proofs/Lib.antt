@@ -16,3 +16,5 @@ pub mod LaidLists
 pub mod Counting
 pub mod NamedParts
 pub mod Laid
+pub mod ReadBack
+pub mod Behind

@@ -7,7 +7,6 @@ use Rattle.pj_tree.specs.declared.tree.Stmt.{Stmt}
 use Rattle.pj_tree.specs.declared.tree.Stmt.TheVariants as stmt
 use Rattle.pj_tree.specs.declared.tree.Part.{Part}
 use Rattle.pj_tree.specs.declared.tree.Part.TheVariants as part
-use Rattle.pj_tree.specs.declared.tree.TreeNode.{TreeNode}
 use Rattle.pj_tree.specs.declared.tree.TreeNode.TheVariants as node
 use Rattle.pj_tree.specs.declared.tree.Body.{Body}
 use Rattle.pj_tree.specs.declared.tree.DefTree.{DefTree}

@@ -2,7 +2,7 @@
 use Rattle.std.proofs.Common.{◌≡◌, ℤ, List, [], ◌∷◌, ◌++◌, map, flat_map, length, refl, sym, ap, ◌∙◌, append_assoc}
 use Rattle.std.proofs.lemmas.List.{length-map}
 use Rattle.pj_fields.specs.Fields.{number, int, list}
-use Rattle.pj_tree.specs.Bytes.{Bytes, parts, expr_step, expr}
+use Rattle.pj_tree.specs.Bytes.{Bytes, expr_step, expr}
 use Rattle.pj_tree.specs.Bytes.{sym as name}
 use Rattle.pj_tree.proofs.NameLaws.{parts-is}
 use Rattle.pj_tree.specs.declared.tree.Sym.{Sym}

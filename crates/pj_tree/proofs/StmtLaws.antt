@@ -1,5 +1,5 @@
 -- The two laws of statements.
-use Rattle.std.proofs.Common.{◌≡◌, ℕ, zero, suc, List, [], ◌++◌, map, Some, refl, sym, ap, subst, ◌∙◌, arith}
+use Rattle.std.proofs.Common.{◌≡◌, ℕ, zero, suc, List, [], ◌++◌, Some, refl, sym, subst, ◌∙◌, arith}
 use Rattle.std.proofs.lemmas.List.{append-nil}
 use Rattle.pj_fields.specs.Fields.{Reader, number, list, both, list_at}
 use Rattle.pj_fields.proofs.Laws.{IsBytes, Taken, Laws, both_laws, list_laws, made_again, Arms, arm_of, arm_done, tagged_takes, tagged_again}
@@ -14,12 +14,11 @@ use Rattle.pj_tree.specs.declared.tree.Body.{Body}
 use Rattle.pj_tree.specs.declared.tree.DefTree.{DefTree}
 use Rattle.pj_tree.specs.declared.tree.Part.TheOpen.{Stmt-F}
 use Rattle.pj_tree.specs.declared.tree.Part.TheViews.{roll-out-Stmt}
-use Rattle.pj_tree.specs.declared.tree.Part.TheFolds.{fold-roll-Stmt}
-use Rattle.pj_tree.specs.Bytes.{Bytes, sym as sym_bytes, syms, expr, stmt, parts, part_bytes, part_step, payload_step, stmt_step, tree_step, body_step, def_step}
+use Rattle.pj_tree.specs.Bytes.{sym as sym_bytes, syms, expr, stmt, part_bytes}
 use Rattle.pj_tree.specs.Fits.{ListFits, SymFits, PartFits, ExprFits, StmtNodeFits, StmtFits}
 use Rattle.pj_tree.specs.Reading.{sym_at, syms_at, part_at, stmt_rows, stmt_node_at, expr_at, stmt_at}
 use Rattle.pj_tree.proofs.TreeSpelling.{stmt-Value, stmt-SetLocal, stmt-SetGlobal, stmt-SetField, stmt-If, stmt-While, stmt-For, stmt-Break, stmt-Continue, stmt-Return, stmt-Eval}
-use Rattle.pj_tree.proofs.NameLaws.{parts-is, sym_laws, syms_laws, part_laws, assoc-2, assoc-3, assoc-5}
+use Rattle.pj_tree.proofs.NameLaws.{sym_laws, syms_laws, part_laws, assoc-2, assoc-3, assoc-5}
 use Rattle.pj_tree.proofs.ExprLaws.{expr_laws}
 
 abbrev NodeFits : (Expr → Type 0) → (Stmt → Type 0) → Stmt → Type 0

@@ -15,7 +15,7 @@ use Rattle.pj_tree.specs.declared.tree.TreeNode.{TreeNode, out-TreeNode, roll-Tr
 use Rattle.pj_tree.specs.declared.tree.TreeNode.TheVariants as node
 use Rattle.pj_tree.specs.declared.tree.Part.TheOpen.{Payload-F, TreeNode-F}
 use Rattle.pj_tree.specs.declared.tree.Part.TheViews.{roll-out-TreeNode, roll-out-Payload, roll-out-Body, roll-out-DefTree}
-use Rattle.pj_tree.specs.declared.tree.Part.TheFolds.{fold-Payload, fold-roll-TreeNode, fold-roll-Payload, fold-roll-Body, fold-roll-DefTree}
+use Rattle.pj_tree.specs.declared.tree.Part.TheFolds.{fold-roll-TreeNode, fold-roll-Payload, fold-roll-Body, fold-roll-DefTree}
 use Rattle.pj_tree.specs.Bytes.{Bytes, sym as sym_bytes, syms, param, params, expr, stmt, tree, part_bytes, part_step, payload_step, stmt_step, tree_step, body_step, def_step}
 use Rattle.pj_tree.specs.Spelled.{payload as payload_spelled}
 use Rattle.pj_tree.specs.Fits.{ListFits, SymFits, ParamFits, PartFits, ExprFits, StmtFits, DefNodeFits, BodyNodeFits, PayloadNodeFits, TreeNodeFits, TreeFitsBelow, TreeFits}

@@ -9,3 +9,4 @@ pub mod RowsScopes
 pub mod Named
 pub mod ReadingLaws
 pub mod Numbering
+pub mod Forest

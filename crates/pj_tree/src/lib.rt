@@ -13,6 +13,7 @@ pub mod scope_rows;
 pub mod tree;
 pub mod tree_copy;
 pub mod tree_list;
+pub mod trees;
 
 pub use encode::encode_tree;
 pub use expression_copy::{
@@ -30,3 +31,4 @@ pub use tree_copy::{
     copy_block, copy_body, copy_def, copy_part, copy_payload, copy_stmt, copy_tree,
 };
 pub use tree_list::TreeList;
+pub use trees::Trees;

@@ -14,7 +14,6 @@ pub struct TreeList {
 impl Model for TreeList {
     ghost use Rattle.std.specs.Prelude.{List};
     ghost use Rattle.pj_tree.specs.declared.tree.TreeNode.{TreeNode};
-
     ghost use Rattle.pj_tree.specs.contracts.tree.TreeNode as node;
     ghost use Rattle.std.specs.Coded.{codes};
 

@@ -1,4 +1,4 @@
-use Rattle.std.proofs.Common.{rules, ◌≡◌, ◌∙◌, ap, sym, append_assoc, arith}
+use Rattle.std.proofs.Common.{append_assoc, arith}
 use Rattle.pj_tree.specs.Numbering.{numbered_stmt}
 use Rattle.pj_tree.proofs.LaidLists.{all-more}
 use Rattle.pj_tree.proofs.numbering.+number_tree.Goals as goal

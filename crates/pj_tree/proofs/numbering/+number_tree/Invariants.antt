@@ -1,6 +1,5 @@
-use Rattle.std.proofs.Common.{◌≡◌, ◌++◌, take, map, ℕ}
-use Rattle.pj_tree.specs.Numbering.{Laid, all, numbered_stmt}
-use Rattle.pj_tree.specs.declared.tree.Stmt.{Stmt}
+use Rattle.std.proofs.Common.{◌≡◌, ◌++◌, take, map}
+use Rattle.pj_tree.specs.Numbering.{all, numbered_stmt}
 use Rattle.pj_tree.proofs.numbering.+number_tree.Given as goal
 
 abbrev pub invariant-block-loop-s : goal.invariant-block-loop-s
