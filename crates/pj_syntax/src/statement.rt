@@ -1,0 +1,50 @@
+use crate::expression::{Expr, Path, Spot};
+use sqlite_items::{Boxed, Items};
+
+/// A parameter or a field: the place of its first byte, its name and its type. A field has a name.
+#[derive(Debug, Drop)]
+pub struct Param {
+    pub at: usize,
+    pub name: Option<Spot>,
+    pub declared: Option<Path>,
+}
+
+pub type ParamList = Items<Param>;
+
+pub type Block = Items<Stmt>;
+
+/// A statement. `x op= e` is `x = x op e`, and `p.f op= e` is `p.f = p.f op e`. The place of `global`, `return`, `break` and
+/// `continue` is that of the word. `elseif` is an `if` in the other branch, and a branch that isn't written is empty.
+#[cycle(statement)]
+#[derive(Debug, Drop)]
+pub enum Stmt {
+    Value(Expr),
+    Set(Spot, Expr),
+    SetField(Expr, Spot, Expr),
+    Global(usize, Spot, Expr),
+    Return(usize, Option<Expr>),
+    Break(usize),
+    Continue(usize),
+    If(Expr, Block, Block),
+    While(Expr, Block),
+    For(Spot, Expr, Expr, Block),
+    Eval(Option<Spot>, Boxed<Payload>),
+}
+
+/// The definition of a method. A short one has its expression as its only statement.
+#[cycle(statement)]
+#[derive(Debug, Drop)]
+pub struct Function {
+    pub path: Path,
+    pub params: ParamList,
+    pub block: Block,
+}
+
+/// What `@eval` evaluates.
+#[cycle(statement)]
+#[derive(Debug, Drop)]
+pub enum Payload {
+    Def(Function),
+    Set(Spot, Expr),
+    Value(Expr),
+}
