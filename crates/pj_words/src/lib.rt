@@ -3,6 +3,7 @@
 
 pub mod names;
 pub mod word;
+pub mod word_rows;
 
 pub use names::{
     continues_name, is_base_name, is_identifier, is_package_name, is_reserved, is_special,

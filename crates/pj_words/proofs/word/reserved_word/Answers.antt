@@ -1,9 +1,8 @@
-use Rattle.std.proofs.Common.{rules, sym, ◌∙◌, tests, Bor}
+use Rattle.std.proofs.Common.{rules, ◌∙◌, tests}
 use Rattle.std.specs.Str.{bytes_eq}
 use Rattle.std.proofs.lemmas.Iterator.{YieldsList-from_slice}
 use Rattle.std.proofs.lemmas.Iterator.Search.{find_from_yields_List}
 use Rattle.pj_words.specs.Reserved.{word_text, reserved_word, all_words}
-use Rattle.pj_words.specs.declared.word.Word.{Word}
 use Rattle.pj_words.proofs.word.reserved_word.Goals as goal
 
 pub returns : goal.returns
