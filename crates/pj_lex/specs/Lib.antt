@@ -5,3 +5,4 @@ pub mod Numbers
 pub mod Strings
 pub mod Names
 pub mod Before
+pub mod Found

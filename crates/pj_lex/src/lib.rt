@@ -1,7 +1,12 @@
 //! From the bytes of a text to its tokens.
 #![tactic(auto)]
 
+mod characters;
+mod comment;
+mod name;
+mod number;
 pub mod sign;
+mod string;
 pub mod token;
 
 pub use sign::Sign;

@@ -1,0 +1,2 @@
+pub mod DigitsRise
+pub mod Encoding
