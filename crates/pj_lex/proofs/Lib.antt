@@ -1,2 +1,4 @@
 pub mod DigitsRise
 pub mod Encoding
+pub mod SignFits
+pub mod Widths

@@ -6,3 +6,5 @@ pub mod Strings
 pub mod Names
 pub mod Before
 pub mod Found
+pub mod Pieces
+pub mod Sizes

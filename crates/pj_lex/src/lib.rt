@@ -5,6 +5,7 @@ mod characters;
 mod comment;
 mod name;
 mod number;
+mod piece;
 pub mod sign;
 mod string;
 pub mod token;

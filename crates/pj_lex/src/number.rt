@@ -5,13 +5,14 @@ ghost use Rattle.std.specs.Prelude.{◌≡◌, ◌<◌, ◌≤◌, ◌^◌, ◌-
 
 use crate::characters::{begins_with_digit, is_digit};
 
-/// A number that is at most 2^63, and what follows its digits.
+/// A number that is at most 2^63 and begins with this one, and what follows its digits.
 #[tactic(auto, unfolding(crate::specs::Numbers::digits))]
-fn digits(characters: &[char]) -> Option<(u64, &[char])>
-    ensures capped { Capped (digits 0 characters.now) result }
+fn digits(first_part: u64, characters: &[char]) -> Option<(u64, &[char])>
+    requires { first_part ≤ 2 ^ 63 }
+    ensures capped { Capped (digits first_part characters.now) result }
     ensures no_longer { IfSome result (λ found. length found.1.now ≤ length characters.now) }
 {
-    let mut value = 0;
+    let mut value = first_part;
     let mut rest = characters;
     while let [first, more @ ..] = rest {
         if is_digit(*first) {
@@ -41,12 +42,13 @@ fn one_more(value: u64, digit: char) -> Option<u64>
     if next <= MOST { Some(next) } else { None }
 }
 
-/// An integer of 64 bits from its digits, and what follows it.
-pub fn positive(characters: &[char]) -> Option<(i64, &[char])>
-    ensures found { option_map (λ found. (found.0, found.1.now)) result ≡ positive (digits 0 characters.now) }
+/// An integer of 64 bits from its first digit and what stands behind that, and what follows it.
+pub fn positive(first: char, characters: &[char]) -> Option<(i64, &[char])>
+    requires { IsTrue (is_digit first) }
+    ensures found { option_map (λ found. (found.0, found.1.now)) result ≡ positive (digits (first - 48) characters.now) }
     ensures no_longer { IfSome result (λ found. length found.1.now ≤ length characters.now) }
 {
-    let Some((value, rest)) = digits(characters) else {
+    let Some((value, rest)) = digits(u64::from(first as u32 - 48), characters) else {
         return None;
     };
     if value >= 1 << 63 {
@@ -60,7 +62,7 @@ pub fn negative(characters: &[char]) -> Option<(i64, &[char])>
     ensures found { option_map (λ found. (found.0, found.1.now)) result ≡ negative (digits 0 characters.now) }
     ensures no_longer { IfSome result (λ found. length found.1.now ≤ length characters.now) }
 {
-    let Some((value, rest)) = digits(characters) else {
+    let Some((value, rest)) = digits(0, characters) else {
         return None;
     };
     Some((negated(value), rest))

@@ -70,7 +70,8 @@ const ALL: [Sign; 28] = [
 impl Sign {
     /// The characters of a sign.
     pub fn characters(self) -> &'static [char]
-        ensures { result.now ≡ sign_text self }
+        ensures spelled { result.now ≡ sign_text self }
+        ensures some { 0 < length result.now }
     {
         match self {
             Sign::Same => &['=', '=', '='],
@@ -127,8 +128,10 @@ impl Sign {
 }
 
 /// The longest sign at the front.
+#[tactic(auto, using(crate::proofs::SignFits::sign_fits))]
 pub fn sign_at(characters: &[char]) -> Option<Sign>
-    ensures { result ≡ sign_at characters.now }
+    ensures found { result ≡ sign_at characters.now }
+    ensures within { IfSome result (λ sign. length (sign_text sign) ≤ length characters.now) }
 {
     ALL.iter()
         .find(|sign| characters.starts_with(sign.characters()))
