@@ -8,3 +8,4 @@ pub mod Before
 pub mod Found
 pub mod Pieces
 pub mod Sizes
+pub mod Lexed
