@@ -1,5 +1,5 @@
 -- A sign that stands at the front is no longer than the text.
-use Rattle.std.proofs.Common.{◌≡◌, ℕ, ◌≤◌, Bool, true, false, cond, List, [], ◌∷◌, Option, Some, None, length, take, nat_eq, refl, sym, ap, ◌∙◌, arith}
+use Rattle.std.proofs.Common.{◌≡◌, ℕ, ◌≤◌, Bool, true, false, cond, List, [], ◌∷◌, Option, Some, length, take, nat_eq, refl, sym, ap, arith}
 use Rattle.std.specs.List.{find, starts_with}
 use Rattle.std.proofs.lemmas.List.{length-take}
 use Rattle.std.proofs.lemmas.Slice.Eq.{bytes_eq-Decides}

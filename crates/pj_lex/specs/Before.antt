@@ -1,5 +1,5 @@
 -- What of the text before a place decides how it goes on there.
-use Rattle.std.specs.Prelude.{ℕ, ◌+◌, ◌-◌, Bool, true, false, not, List, codes, ◌&&◌, ◌||◌, if◌then◌else◌}
+use Rattle.std.specs.Prelude.{ℕ, ◌+◌, ◌-◌, Bool, true, false, not, Option, Some, None, codes, ◌&&◌, ◌||◌, if◌then◌else◌}
 use Rattle.std.specs.Str.{bytes_eq}
 use Rattle.pj_words.specs.declared.word.Word.{Word}
 use Rattle.pj_words.specs.declared.word.Word.TheVariants as words
@@ -82,3 +82,8 @@ after before kind = record {
 -- behind blank space, a comment or a dropped line end
 abbrev pub behind_blank : Before → Before
 behind_blank before = record before { blank = true }
+
+-- behind a piece: a token, or None for one of these
+abbrev pub behind : Before → Option TokenKind → Before
+behind before (Some kind) = after before kind
+behind before None = behind_blank before

@@ -1,5 +1,5 @@
 -- A text as its characters, each of which is its code point.
-use Rattle.std.specs.Prelude.{ℕ, Bool, false, List, [], ◌∷◌, ◌+◌, ◌-◌, ◌==◌, ◌&&◌, ◌||◌, length, take, nat_le}
+use Rattle.std.specs.Prelude.{ℕ, Bool, false, List, [], ◌∷◌, ◌+◌, ◌-◌, ◌==◌, ◌&&◌, ◌||◌, length, nat_le}
 use Rattle.std.specs.Char.{len_utf8}
 
 -- how many bytes these characters take

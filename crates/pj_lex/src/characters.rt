@@ -1,5 +1,17 @@
 ghost use Rattle.pj_lex.specs.Characters.{first_is, is_blank, is_digit, width};
-ghost use Rattle.std.specs.Prelude.{◌≡◌, ◌<◌, ◌^◌, ◌==◌};
+ghost use Rattle.std.specs.Prelude.{◌≡◌, ◌<◌, ◌^◌, ◌==◌, IfOk};
+ghost use Rattle.std.specs.Str.{chars};
+
+use pj_base::NoMemory;
+use std::alloc::Global;
+
+/// The characters of a text.
+pub fn characters(alloc: Global, text: &str) -> Result<Vec<char>, NoMemory>
+    ensures { IfOk result (λ all. all.items ≡ chars text.now) }
+{
+    let all = text.chars().collect::<Vec<char>>(alloc)?;
+    Ok(all)
+}
 
 /// Whether a character is a space, a tab or a carriage return.
 pub fn is_blank(character: char) -> bool
