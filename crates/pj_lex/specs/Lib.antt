@@ -10,3 +10,4 @@ pub mod Refused
 pub mod Signs
 pub mod Sizes
 pub mod Strings
+pub mod TextRows

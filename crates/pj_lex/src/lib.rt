@@ -16,6 +16,7 @@ mod number;
 mod piece;
 pub mod sign;
 mod string;
+pub mod text_rows;
 pub mod token;
 
 pub use fault::{SyntaxFault, SyntaxKind};
