@@ -1,0 +1,13 @@
+pub mod Before
+pub mod Characters
+pub mod Comments
+pub mod Found
+pub mod Lexed
+pub mod Names
+pub mod Numbers
+pub mod Pieces
+pub mod Refused
+pub mod Signs
+pub mod Sizes
+pub mod Strings
+pub mod TextRows
