@@ -1,5 +1,7 @@
-//! Tests of the bytes of trees: trees of every tag, and bytes of none.
+//! Tests of trees: the bytes and the printed form of trees of every tag, and bytes of none.
 #![tactic(auto)]
 
+#[cfg(test)]
+mod outlines;
 #[cfg(test)]
 mod tests;

@@ -60,7 +60,7 @@ const NO_TREES: [&[u32]; 14] = [
     &[66, 8, 0, 7, 4294967295, 0],
 ];
 
-fn bytes_of(alloc: Global, numbers: &[u32]) -> Result<Vec<u8>, NoMemory> {
+pub fn bytes_of(alloc: Global, numbers: &[u32]) -> Result<Vec<u8>, NoMemory> {
     let mut bytes = Vec::new(alloc);
     for number in numbers {
         bytes.extend_from_slice(&number.to_le_bytes())?;
