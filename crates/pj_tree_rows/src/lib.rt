@@ -2,6 +2,8 @@
 #![tactic(auto)]
 
 #[cfg(test)]
+mod forest;
+#[cfg(test)]
 mod outlines;
 #[cfg(test)]
 mod tests;
