@@ -1,1 +1,5 @@
 pub mod LimitLaws
+pub mod MentionLaws
+pub mod NumberingLaws
+pub mod TwiceLaws
+pub mod BelowLaws

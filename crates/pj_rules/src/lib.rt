@@ -3,9 +3,14 @@
 
 mod fits;
 mod limits;
+mod mentions;
+mod numbering;
+mod twice;
 
 pub use fits::tree_fits;
 pub use limits::{
     block_has_few_arguments, block_is_outside, has_few_arguments, stmt_has_few_arguments,
     stmt_is_outside,
 };
+pub use mentions::{Mention, mentions_of};
+pub use numbering::trees_name_well;
