@@ -3,3 +3,5 @@ pub mod MentionLaws
 pub mod NumberingLaws
 pub mod TwiceLaws
 pub mod BelowLaws
+pub mod ScopelessLaws
+pub mod ParamLaws

@@ -5,6 +5,8 @@ mod fits;
 mod limits;
 mod mentions;
 mod numbering;
+mod params;
+mod scopeless;
 mod twice;
 
 pub use fits::tree_fits;
@@ -14,3 +16,5 @@ pub use limits::{
 };
 pub use mentions::{Mention, mentions_of};
 pub use numbering::trees_name_well;
+pub use params::params_ok;
+pub use scopeless::expr_ok;
