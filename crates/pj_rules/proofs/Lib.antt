@@ -5,3 +5,4 @@ pub mod TwiceLaws
 pub mod BelowLaws
 pub mod ScopelessLaws
 pub mod ParamLaws
+pub mod CountLaws

@@ -1,6 +1,7 @@
 //! Tests of the rules on trees: each computes a definition exactly.
 #![tactic(auto)]
 
+mod counts;
 mod fits;
 mod limits;
 mod mentions;
@@ -9,6 +10,7 @@ mod params;
 mod scopeless;
 mod twice;
 
+pub use counts::has_few_names;
 pub use fits::tree_fits;
 pub use limits::{
     block_has_few_arguments, block_is_outside, has_few_arguments, stmt_has_few_arguments,

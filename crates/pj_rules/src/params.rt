@@ -8,7 +8,7 @@ use pj_tree::{Param, Sym};
 
 /// The text of a name. A number without a string counts as the empty text.
 #[tactic(auto, unfolding(crate::specs::Names::text, crate::specs::Names::strings_at))]
-fn spelled<'a>(strings: &'a [Text], sym: &'a Sym) -> &'a [u8]
+pub fn spelled<'a>(strings: &'a [Text], sym: &'a Sym) -> &'a [u8]
     ensures { result.now ≡ text strings.now sym.now }
 {
     match sym {
