@@ -2,6 +2,7 @@ pub mod Determined
 pub mod DigitsRise
 pub mod Encoding
 pub mod Loop
+pub mod Pairs
 pub mod Runs
 pub mod SignFits
 pub mod Whole

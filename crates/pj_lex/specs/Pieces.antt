@@ -36,7 +36,7 @@ long_comment cs None = None
 -- behind `#`: a comment
 abbrev pub comment : List ℕ → Option Piece
 comment [] = Some (passed 1)
-comment (c ∷ cs) = if c == 61 then long_comment cs (past_comments 1 32 cs) else Some (passed (1 + up_to (c ∷ cs) (past_line (c ∷ cs))))
+comment (c ∷ cs) = if c == 61 then long_comment cs (past_comments 1 cs) else Some (passed (1 + up_to (c ∷ cs) (past_line (c ∷ cs))))
 
 -- behind `"`: a string
 abbrev pub string : List ℕ → Option (List ℕ × List ℕ) → Option Piece
