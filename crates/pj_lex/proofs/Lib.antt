@@ -3,7 +3,9 @@ pub mod DigitsRise
 pub mod Encoding
 pub mod Loop
 pub mod Pairs
+pub mod PieceSpells
 pub mod Runs
 pub mod SignFits
+pub mod SpelledLaw
 pub mod Whole
 pub mod Widths

@@ -11,3 +11,4 @@ pub mod Signs
 pub mod Sizes
 pub mod Strings
 pub mod TextRows
+pub mod Spelled
