@@ -1,6 +1,7 @@
 pub mod Determined
 pub mod DigitsRise
 pub mod Encoding
+pub mod LongestSign
 pub mod Loop
 pub mod Pairs
 pub mod PieceSpells

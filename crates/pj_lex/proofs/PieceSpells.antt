@@ -1,24 +1,24 @@
 -- The text of a piece is that of its token.
-use Rattle.std.proofs.Common.{◌≡◌, ℕ, zero, suc, ◌+◌, ◌-◌, ◌<◌, ◌≤◌, ◌==◌, ◌&&◌, ◌||◌, ◌⊎◌, inl, inr, Bool, true, false, not, cond, List, [], ◌∷◌, ◌++◌, Option, Some, None, IfSome, length, take, drop, refl, sym, ap, subst, ◌∙◌, arith, lit<, is_some, nat_eq}
+use Rattle.std.proofs.Common.{◌≡◌, ℕ, zero, suc, ◌+◌, ◌-◌, ◌≤◌, ◌==◌, ◌&&◌, ◌||◌, ◌⊎◌, inl, inr, Bool, true, false, cond, List, [], ◌∷◌, Option, Some, None, IfSome, length, take, drop, refl, sym, ap, subst, arith, lit<, nat_eq}
 use Rattle.std.specs.Prelude.{⊤, ℤ, codes, encode_utf8_all, nat_le, nat_lt}
 use Rattle.std.specs.List.{list_all, starts_with}
-use Rattle.std.specs.Str.{all_scalars, bytes_eq, chars}
+use Rattle.std.specs.Str.{all_scalars, bytes_eq}
 use Rattle.std.proofs.Math.Utf8.{scalar}
 use Rattle.std.proofs.lemmas.Bool.{eqb-true}
 use Rattle.std.proofs.lemmas.Slice.Eq.{bytes_eq-Decides}
 use Rattle.std.proofs.lemmas.Str.{chars-encodes}
-use Rattle.unicode_ident.specs.Ident.{is_xid_start, is_xid_continue}
+use Rattle.unicode_ident.specs.Ident.{is_xid_start}
 use Rattle.unicode_ident.proofs.IdentLemmas.{is_xid_start-is_xid_continue, is_xid_continue-ascii}
 use Rattle.pj_words.specs.declared.word.Word.{Word}
 use Rattle.pj_words.specs.Reserved.{all_words, reserved_word, word_text}
-use Rattle.pj_words.specs.Words.{continues_name, first_is, is_identifier, longest_name, starts_name}
+use Rattle.pj_words.specs.Words.{continues_name, is_identifier, longest_name, starts_name}
 use Rattle.pj_lex.specs.declared.sign.Sign.{Sign}
 use Rattle.pj_lex.specs.declared.piece.Piece.{Piece}
 use Rattle.pj_lex.specs.declared.token.TokenKind.{TokenKind}
 use Rattle.pj_lex.specs.declared.token.TokenKind.TheVariants as kinds
 use Rattle.pj_lex.specs.declared.token.Before.{Before}
 use Rattle.pj_lex.specs.Characters.{is_blank, is_digit, up_to, width}
-use Rattle.pj_lex.specs.Comments.{past_comments, past_line}
+use Rattle.pj_lex.specs.Comments.{past_comments}
 use Rattle.pj_lex.specs.Names.{goes_on, past_name}
 use Rattle.pj_lex.specs.Numbers.{digits, negative, positive}
 use Rattle.pj_lex.specs.Pieces.{at_eval, comment, integer, is_minus_of_literal, is_token, line_end, long_comment, named_by, next_piece, passed, plain_piece, signed, string, word}

@@ -1,22 +1,20 @@
 -- The texts of tokens stand in their spans.
-use Rattle.std.proofs.Common.{◌≡◌, ℕ, ◌+◌, ◌-◌, true, List, [], ◌∷◌, ◌++◌, Option, Some, None, Result, Ok, Err, IfOk, IfSome, length, take, drop, refl, sym, ap, subst, ◌∙◌, arith, append_assoc}
+use Rattle.std.proofs.Common.{◌≡◌, ℕ, ◌+◌, ◌-◌, true, List, [], ◌++◌, Option, Some, None, IfSome, length, take, drop, refl, sym, ap, subst, ◌∙◌, arith, append_assoc}
 use Rattle.std.specs.Prelude.{encode_utf8_all, slice_range}
 use Rattle.std.specs.List.{AllByRecursion}
 use Rattle.std.specs.Str.{IsUtf8, all_scalars, chars}
 use Rattle.std.proofs.Math.Seq.{drop-append_seam, take-append_seam}
 use Rattle.std.proofs.lemmas.List.{length-append, take-append-drop}
 use Rattle.std.proofs.lemmas.Str.{encodes-append, encodes-chars, scalars-chars}
-use Rattle.pj_lex.specs.declared.fault.SyntaxFault.{SyntaxFault}
 use Rattle.pj_lex.specs.declared.token.TokenKind.{TokenKind}
 use Rattle.pj_lex.specs.declared.token.Token.{Token}
 use Rattle.pj_lex.specs.declared.token.Before.{Before}
 use Rattle.pj_lex.specs.Before.{start}
 use Rattle.pj_lex.specs.Characters.{width}
-use Rattle.pj_lex.specs.Lexed.{Lexed, added, ended, goes_on, past, token}
-use Rattle.pj_lex.specs.Pieces.{next_piece}
+use Rattle.pj_lex.specs.Lexed.{Lexed, added, ended, goes_on, past}
 use Rattle.pj_lex.specs.Spelled.{IsSpelled, Spells}
-use Rattle.pj_lex.proofs.PieceSpells.{SpellsToken, Told, scalars_drop, told}
-use Rattle.pj_lex.proofs.Widths.{width_encodes, width_split}
+use Rattle.pj_lex.proofs.PieceSpells.{SpellsToken, scalars_drop, told}
+use Rattle.pj_lex.proofs.Widths.{width_encodes}
 
 width_append : (xs ys : List ℕ) → width (xs ++ ys) ≡ width xs + width ys
 width_append xs ys =
