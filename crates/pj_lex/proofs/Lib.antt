@@ -3,6 +3,7 @@ pub mod DigitsRise
 pub mod Encoding
 pub mod LongestSign
 pub mod Loop
+pub mod NestedLaw
 pub mod Pairs
 pub mod PieceSpells
 pub mod Runs

@@ -6,7 +6,8 @@ unfoldable pub past_line : List ℕ → List ℕ
 past_line [] = []
 past_line (c ∷ cs) = if c == 10 then c ∷ cs else past_line cs
 
--- What follows comments, of which so many are open, where all are closed. `#=` opens one more, and `=#` closes one.
+-- What follows comments, of which so many are open, where all are closed. `#=` opens one more, and `=#` closes one; 35 is `#`, and 61
+-- is `=`.
 unfoldable pub past_comments : ℕ → List ℕ → Option (List ℕ)
 past_comments open_ones [] = None
 past_comments open_ones (c ∷ []) = None

@@ -12,3 +12,4 @@ pub mod Sizes
 pub mod Strings
 pub mod TextRows
 pub mod Spelled
+pub mod Nested

@@ -3,6 +3,8 @@ ghost use Rattle.pj_lex.specs.declared.token.Token.{Token};
 ghost use Rattle.pj_lex.specs.declared.token.Before.{Before};
 ghost use Rattle.pj_lex.specs.Lexed.{Faulty, Lexed};
 ghost use Rattle.pj_lex.specs.declared.sign.Sign.{Sign};
+ghost use Rattle.pj_lex.specs.Comments.{past_comments};
+ghost use Rattle.pj_lex.specs.Nested.{Closes};
 ghost use Rattle.pj_lex.specs.Signs.{sign_at, sign_text};
 ghost use Rattle.std.specs.List.{starts_with};
 ghost use Rattle.std.specs.Prelude.{◌≡◌, ◌≤◌, IsSome, List, Some, length, nat_eq, true, ℕ};
@@ -19,4 +21,10 @@ pub fn one_reading()
 pub fn longest_signs()
     ensures longest_sign { (characters : List ℕ) (sign other : Sign) → sign_at characters ≡ Some sign → starts_with nat_eq characters (sign_text other) ≡ true → length (sign_text other) ≤ length (sign_text sign) }
     ensures some_sign { (characters : List ℕ) (sign : Sign) → starts_with nat_eq characters (sign_text sign) ≡ true → IsSome (sign_at characters) }
+{}
+
+/// What is read behind a comment's `#=` is what follows it as comments nest.
+pub fn nested_comments()
+    ensures read { (characters rest : List ℕ) → past_comments 1 characters ≡ Some rest → Closes characters rest }
+    ensures closed { (characters rest : List ℕ) → Closes characters rest → past_comments 1 characters ≡ Some rest }
 {}
