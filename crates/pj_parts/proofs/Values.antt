@@ -46,3 +46,5 @@ value-Struct n xs = ap value (sym (v.rolls-Struct n xs)) ∙ fold-roll-Value (Li
 pub ruleset value_spelling = (value-Nothing, value-False, value-True, value-Int, value-Str, value-Fun, value-Object, value-Struct, append_assoc)
 
 pub ruleset value_sizes = (value-Nothing, value-False, value-True, value-Int, value-Str, value-Fun, value-Object, value-Struct, length-number, length-int, length-list, length-append)
+
+pub ruleset value_layers = (v.outs-Nothing, v.outs-False, v.outs-True, v.outs-Int, v.outs-Str, v.outs-Fun, v.outs-Object, v.outs-Struct)

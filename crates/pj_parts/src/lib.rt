@@ -11,12 +11,14 @@ pub mod methods;
 pub mod part;
 pub mod records;
 pub mod simple;
+pub mod tested;
 pub mod tree_size;
 pub mod trees;
 pub mod types;
 
 pub use fault::PartFault;
 pub use part::Part;
+pub use tested::Tested;
 pub use types::{
     Binding, BindingForm, CodeRecord, Dependency, Directive, Edge, Element, FieldDef, FunDef, Head,
     Method, Object, Outcome, TypeDef, TypeForm, Value,

@@ -1,0 +1,4 @@
+pub mod Joined
+pub mod SeenLoop
+pub mod FitLoop
+pub mod Walking

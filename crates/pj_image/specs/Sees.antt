@@ -1,0 +1,8 @@
+-- What has been seen is what reading gives, unless memory ran out.
+use Rattle.std.specs.Prelude.{◌≡◌, List, ℕ, Option, Some, Result, Ok, Err}
+use Rattle.pj_parts.specs.Given.{Fails}
+use Rattle.pj_parts.specs.declared.fault.PartFault.{PartFault}
+
+abbrev pub Sees : {U : Type 0} → Result U PartFault → List (List ℕ) → Option (List (List ℕ)) → Type 0
+Sees (Ok u) seen read = read ≡ Some seen
+Sees (Err fault) seen read = Fails fault read
