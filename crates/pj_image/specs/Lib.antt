@@ -1,3 +1,4 @@
+pub mod File
 pub mod Found
 pub mod Frames
 pub mod Names

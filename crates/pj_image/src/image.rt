@@ -1,5 +1,5 @@
 use pj_base::Text;
-use pj_parts::{Binding, CodeRecord, Directive, FunDef, Head, Method, Object, TypeDef};
+use pj_parts::{Binding, CodeRecord, CodeWord, Directive, FunDef, Head, Method, Object, TypeDef};
 use pj_reloc::Entry;
 use pj_tree::TreeNode;
 use sqlite_items::Items;
@@ -17,6 +17,6 @@ pub struct Image {
     pub methods: Items<Method>,
     pub directives: Items<Directive>,
     pub records: Items<CodeRecord>,
-    pub code: Items<u32>,
+    pub code: Items<CodeWord>,
     pub entries: Items<Entry>,
 }

@@ -4,7 +4,7 @@ ghost use Rattle.std.specs.Prelude.{◌≡◌, ◌+◌, ◌*◌, ◌<◌, ◌^�
 ghost use Rattle.std.specs.List.{flat_map, list_all};
 ghost use Rattle.pj_fields.specs.Fields.{list};
 ghost use Rattle.pj_parts.specs.Spelling.{method};
-ghost use Rattle.pj_image.specs.Pieces.{Piece, Mention, method_pieces, methods_pieces, walk, walk_from, past, is_over, placed};
+ghost use Rattle.pj_image.specs.Pieces.{Piece, Mention, method_pieces, methods_pieces, walk, walk_from, past, is_over, placed, method_fine};
 
 use pj_parts::Method;
 use pj_reloc::Entry;
@@ -82,4 +82,24 @@ pub fn entries_placed(at: u64, methods: &[Method], entries: &[Entry]) -> bool
     ensures { result ≡ placed at methods.now entries.now }
 {
     entries_fit(methods, at + 4, entries)
+}
+
+/// Whether a method has at most 16 parameters, and a body of as many.
+fn is_method_fine(trees: &[TreeNode], m: &Method) -> bool
+    ensures { result ≡ method_fine trees.now m.now }
+{
+    if m.types.len() > 16 {
+        return false;
+    }
+    match item_at(trees, m.body as usize) {
+        Some(TreeNode::Body(body)) => body.params.len() == m.types.len(),
+        _ => false,
+    }
+}
+
+/// Whether each method has at most 16 parameters, and a body of as many.
+pub fn methods_fine(trees: &[TreeNode], methods: &[Method]) -> bool
+    ensures { result ≡ list_all (method_fine trees.now) methods.now }
+{
+    methods.iter().all(|m| is_method_fine(trees, m))
 }

@@ -1,6 +1,7 @@
 //! The trees that are built today: bodies of methods on whole numbers.
 
 ghost use Rattle.std.specs.Prelude.{◌≡◌, IfOk, IsTrue, map, option_and_then};
+ghost use Rattle.std.specs.List.{AllByRecursion, list_all};
 ghost use Rattle.pj_image.specs.Names.{text_of as sym_text, sym_number, all_seen};
 ghost use Rattle.pj_image.specs.PlainTrees.{passes, is_among, is_base, is_operator, plain_pair, plain_node as plain_layer, plain_expr as is_plain_expr, plain_stmt as plain_statement, plain_block as is_plain_block, plain_under, plain_body as is_plain_body, is_plain};
 ghost use Rattle.pj_tree.specs.Fits.{SymFits, ListFits, ExprFits, ExprNodeFits, StmtFits, BodyNodeFits, TreeFits};
@@ -146,4 +147,17 @@ pub fn plain_tree(alloc: Global, strings: &[Text], t: &TreeNode) -> Result<bool,
         TreeNode::Body(body) => plain_body(alloc, strings, body),
         TreeNode::Payload(_) => Ok(false),
     }
+}
+
+/// Whether all trees are bodies of this form. Then they have spellings.
+pub fn plain_trees(alloc: Global, strings: &[Text], trees: &[TreeNode]) -> Result<bool, NoMemory>
+    ensures is { IfOk result (λ plain. plain ≡ list_all (is_plain strings.now) trees.now) }
+    ensures fits { IfOk result (λ plain. IsTrue plain → AllByRecursion TreeFits trees.now) }
+{
+    for t in trees {
+        if !plain_tree(alloc, strings, t)? {
+            return Ok(false);
+        }
+    }
+    Ok(true)
 }

@@ -27,6 +27,7 @@ use Rattle.pj_parts.specs.declared.types.Outcome.TheVariants as outcomes
 use Rattle.pj_parts.specs.declared.types.Edge.{Edge}
 use Rattle.pj_parts.specs.declared.types.Edge.TheVariants as edges
 use Rattle.pj_parts.specs.declared.types.CodeRecord.{CodeRecord}
+use Rattle.pj_parts.specs.declared.types.CodeWord.{CodeWord}
 
 -- how many bytes, and the bytes
 abbrev pub text : List ℕ → List ℕ
@@ -107,6 +108,9 @@ edge (edges.Meets fun elems methods) = number 1 ++ (number fun ++ (list element 
 
 abbrev pub code_record : CodeRecord → List ℕ
 code_record r = number r.method ++ (list element r.params ++ (element r.outcome ++ (list edge r.edges ++ (list number r.links ++ (number r.registers ++ number r.instructions)))))
+
+abbrev pub code_word : CodeWord → List ℕ
+code_word w = number w.0
 
 -- ---- what the mentions name
 

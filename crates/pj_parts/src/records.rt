@@ -6,7 +6,7 @@ ghost use Rattle.pj_parts.specs.Given.{Gives};
 
 use crate::fault::PartFault;
 use crate::part::Part;
-use crate::types::{CodeRecord, Edge, Element, Outcome};
+use crate::types::{CodeRecord, CodeWord, Edge, Element, Outcome};
 use pj_base::{ByteList, NoMemory};
 use std::alloc::Global;
 
@@ -135,5 +135,31 @@ impl Part for CodeRecord {
         let elements = self.params.size().saturating_add(self.outcome.size());
         let tied = self.edges.size().saturating_add(self.links.size());
         elements.saturating_add(tied).saturating_add(12)
+    }
+}
+
+impl Part for CodeWord {
+    ghost use Rattle.pj_parts.specs.Fits.{NoneYet};
+    ghost use Rattle.pj_parts.specs.Reading.{nothing_at};
+    ghost use Rattle.pj_parts.specs.Spelling.{code_word};
+
+    ghost bytes = { code_word };
+
+    ghost fits = { NoneYet };
+
+    ghost at = { nothing_at };
+
+    fn put(&self, _out: &mut ByteList) -> Result<(), NoMemory> {
+        Ok(())
+    }
+
+    #[tactic(auto, unfolding(crate::specs::Reading::nothing_at))]
+    fn take(_alloc: Global, _source: &[u8]) -> Result<(CodeWord, &[u8]), PartFault> {
+        Err(PartFault::Bad)
+    }
+
+    #[tactic(auto, using(crate::proofs::Sizes::sizes))]
+    fn size(&self) -> u64 {
+        4
     }
 }

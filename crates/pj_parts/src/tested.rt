@@ -4,7 +4,7 @@ ghost use Rattle.std.specs.Prelude.{◌↔◌, IsTrue};
 ghost use Rattle.std.specs.List.{AllByRecursion};
 
 use crate::types::{
-    Binding, CodeRecord, Dependency, Directive, FunDef, Head, Method, Object, TypeDef, Value,
+    Binding, CodeRecord, CodeWord, Dependency, Directive, FunDef, Head, Method, Object, TypeDef, Value,
 };
 use pj_base::Text;
 use pj_reloc::Entry;
@@ -193,5 +193,15 @@ impl Tested for Value {
             Value::Nothing | Value::False | Value::True => false,
             Value::Str(_) | Value::Fun(_) | Value::Object(_) | Value::Struct(_, _) => false,
         }
+    }
+}
+
+impl Tested for CodeWord {
+    ghost use Rattle.pj_parts.specs.Fits.{NoneYet};
+
+    ghost fits = { NoneYet };
+
+    fn is_fit(&self) -> bool {
+        false
     }
 }

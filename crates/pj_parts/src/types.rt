@@ -145,3 +145,7 @@ pub struct CodeRecord {
     pub registers: u32,
     pub instructions: u32,
 }
+
+/// One word of a record's code.
+#[derive(Clone, Copy, Debug, PartialEq, Eq)]
+pub struct CodeWord(pub u32);
