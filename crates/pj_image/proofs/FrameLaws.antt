@@ -29,7 +29,7 @@ alone_some {A = A} (Some z) x e =
     let p = alone_by z.0 x z.1 (eqb (length z.1) 0) refl e in
     (z.1, ap (λ (y : A). Some (y, z.1)) p.0, p.1)
 
-nothing_left : {A : Type 0} (xs : List A) → length xs ≡ 0 → xs ≡ []
+pub nothing_left : {A : Type 0} (xs : List A) → length xs ≡ 0 → xs ≡ []
 nothing_left [] e = refl
 nothing_left (x ∷ xs) e = absurd (omega (arith, e))
 

@@ -5,3 +5,7 @@ pub mod Walking
 pub mod FrameLaws
 pub mod Founds
 pub mod SectionLaws
+pub mod Steps
+pub mod DeclaredLaws
+pub mod BodiesLaws
+pub mod EndingLaws

@@ -32,7 +32,7 @@ pub fn identity(bytes: &[u8]) -> [u8; 32]
 }
 
 /// Whether a file begins as every file does.
-#[tactic(auto, unfolding(crate::specs::File::front))]
+#[tactic(auto, unfolding(crate::specs::File::front, pj_fields::specs::Fields::number))]
 fn has_front(bytes: &[u8]) -> bool
     ensures { result ≡ bytes_eq bytes.now front }
 {
