@@ -39,7 +39,7 @@ pub record EndingRead (place : ℕ) (methods : List Method) (bytes : List ℕ) (
   pub fits : EndingFits place methods x
   pub parts : bytes ≡ ending_put x
 
-both_true : (a b : Bool) → (a && b) ≡ true → (a ≡ true) × (b ≡ true)
+pub both_true : (a b : Bool) → (a && b) ≡ true → (a ≡ true) × (b ≡ true)
 both_true true true e = (refl, refl)
 both_true true false e = absurd cc
 both_true false b e = absurd cc

@@ -2,7 +2,7 @@
 use Rattle.std.proofs.Common.{◌≡◌, ℕ, Bool, true, false, Option, Some, None, Result, Ok, Err, refl, ap}
 use Rattle.pj_image.specs.Found.{◌>>=◌, or_fault, checked}
 
-abbrev ok : {A : Type 0} → A → Result A ℕ
+abbrev pub ok : {A : Type 0} → A → Result A ℕ
 ok x = Ok x
 
 pub ok_is : {A : Type 0} (x y : A) → ok x ≡ ok y → x ≡ y

@@ -9,3 +9,5 @@ pub mod Steps
 pub mod DeclaredLaws
 pub mod BodiesLaws
 pub mod EndingLaws
+pub mod FileLaws
+pub mod Decoded

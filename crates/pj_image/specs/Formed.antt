@@ -41,6 +41,12 @@ pub record Formed (i : Image) : Type 0 where
   pub fine : list_all (method_fine i.trees) i.methods ≡ true
   pub right : placed (methods_place i) i.methods i.entries ≡ true
 
+-- the image of this name whose file the bytes are
+pub record IsFileOf (name bytes : List ℕ) (i : Image) : Type 0 where
+  pub formed : Formed i
+  pub called : i.head.name ≡ name
+  pub whole : bytes ≡ spelled i
+
 -- a spelling of at most 67,108,864 bytes
 pub record ImageOk (i : Image) : Type 0 where
   pub formed : Formed i

@@ -1,10 +1,13 @@
 //! From the bytes of a file to an image.
 
-ghost use Rattle.std.specs.Prelude.{◌≡◌, ◌+◌, ◌-◌, ◌≤◌, ◌<◌, ◌^◌, length, take};
+ghost use Rattle.std.specs.Prelude.{◌≡◌, ℕ, Err, IfOk, ◌+◌, ◌-◌, ◌≤◌, ◌<◌, ◌^◌, length, take};
 ghost use Rattle.std.specs.Str.{bytes_eq};
 ghost use Rattle.sha2.specs.Sha256.{sha256};
 ghost use Rattle.pj_image.specs.File.{front, sealed_at, file_at};
+ghost use Rattle.pj_image.specs.Formed.{Formed, IsFileOf};
 ghost use Rattle.pj_image.specs.Found.{Finds};
+ghost use Rattle.pj_image.specs.Spelled.{spelled};
+ghost use Rattle.pj_image.specs.declared.image.Image.{Image};
 
 use crate::fault::DecodeFault;
 use crate::image::Image;
@@ -60,10 +63,9 @@ fn take_sealed(
     take_parts(alloc, name, body.len(), sections)
 }
 
-/// The image of this name whose file the bytes are. A fault is the first section that is at fault, in the order of
-/// the rules: 0 for what stands before the sections, 13 for the identity, then 1 to 12.
+/// The image of this name whose file the bytes are, or the first section at fault.
 #[tactic(auto, unfolding(crate::specs::File::file_at))]
-pub fn decode(alloc: Global, bytes: &[u8], name: &str) -> Result<Image, DecodeFault>
+fn take_file(alloc: Global, bytes: &[u8], name: &str) -> Result<Image, DecodeFault>
     ensures { Finds (λ x. x) result (file_at name.now bytes.now) }
 {
     if bytes.len() < 44 {
@@ -71,4 +73,19 @@ pub fn decode(alloc: Global, bytes: &[u8], name: &str) -> Result<Image, DecodeFa
     }
     let (body, seal) = bytes.split_at(bytes.len() - 32);
     take_sealed(alloc, name, body, seal)
+}
+
+/// The image of this name whose file the bytes are. A fault is the first section that is at fault: 0 where what stands
+/// before the sections is, then 13 where the identity is, then 1 to 12. Another name is a fault of section 1.
+pub fn decode(alloc: Global, bytes: &[u8], name: &str) -> Result<Image, DecodeFault>
+    // The parts, or the first section at fault.
+    ensures exact { Finds (λ x. x) result (file_at name.now bytes.now) }
+    // What is read has a spelling and the asked name, and the bytes are its spelling.
+    ensures found { IfOk result (λ i. IsFileOf name.now bytes.now i) }
+    // They are the spelling of no other image.
+    ensures only { IfOk result (λ i. (j : Image) → Formed j → bytes.now ≡ spelled j → j ≡ i) }
+    // A fault comes only where they are the spelling of no image of this name.
+    ensures bad { (k : ℕ) → result ≡ Err (DecodeFault.Format k) → (j : Image) → IsFileOf name.now bytes.now j → ⊥ }
+{
+    take_file(alloc, bytes, name)
 }
