@@ -11,3 +11,4 @@ pub mod BodiesLaws
 pub mod EndingLaws
 pub mod FileLaws
 pub mod Decoded
+pub mod Lengths

@@ -1,4 +1,5 @@
 pub mod File
+pub mod Fitting
 pub mod Formed
 pub mod Found
 pub mod Frames

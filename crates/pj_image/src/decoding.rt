@@ -16,10 +16,10 @@ use sha2::{Digest, Sha256};
 use std::alloc::Global;
 
 /// What every file begins with: eight letters, and the version.
-const FRONT: [u8; 12] = *b"PJIMAGE1\x01\x00\x00\x00";
+pub(crate) const FRONT: [u8; 12] = *b"PJIMAGE1\x01\x00\x00\x00";
 
 /// The digest of the bytes.
-fn digest(bytes: &[u8]) -> [u8; 32]
+pub(crate) fn digest(bytes: &[u8]) -> [u8; 32]
     ensures { result ≡ sha256 bytes.now }
 {
     Sha256::digest(bytes)

@@ -2,9 +2,12 @@
 #![tactic(auto)]
 
 pub mod decoding;
+pub mod encoding;
 pub mod fault;
+pub mod fitness;
 pub mod frame;
 pub mod image;
+pub mod measure;
 pub mod methods;
 pub mod named;
 pub mod plain;
@@ -12,5 +15,7 @@ pub mod sections;
 pub mod stages;
 
 pub use decoding::{decode, identity};
+pub use encoding::encode;
 pub use fault::DecodeFault;
 pub use image::Image;
+pub use measure::length;
