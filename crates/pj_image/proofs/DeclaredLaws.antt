@@ -1,8 +1,8 @@
 -- The two laws of sections 1 to 6.
-use Rattle.std.proofs.Common.{◌≡◌, ℕ, ◌^◌, ◌<◌, Bool, true, List, [], ◌++◌, map, Option, Some, Result, Ok, refl, sym, ap, subst, ◌∙◌, append_assoc, arith}
+use Rattle.std.proofs.Common.{◌≡◌, ℕ, true, List, [], ◌++◌, map, Option, Ok, refl, ap, subst, ◌∙◌, append_assoc, arith}
 use Rattle.std.specs.Prelude.{is_some, option_and_then}
-use Rattle.pj_fields.specs.Fields.{Reader, list, list_at}
-use Rattle.pj_fields.proofs.Laws.{IsBytes, Laws}
+use Rattle.pj_fields.specs.Fields.{list, list_at}
+use Rattle.pj_fields.proofs.Laws.{IsBytes}
 use Rattle.pj_parts.specs.declared.types.TypeDef.{TypeDef}
 use Rattle.pj_parts.specs.declared.types.Object.{Object}
 use Rattle.pj_parts.specs.Reading.{nothing_at, text_at, head_at, fun_def_at, binding_at}
@@ -10,14 +10,14 @@ use Rattle.pj_parts.specs.Fits.{ListFits, NoneYet, TextFits, HeadFits, FunDefFit
 use Rattle.pj_parts.specs.Spelling.{head, text, type_def, fun_def, binding, object}
 use Rattle.pj_parts.proofs.PartLaws.{head_laws}
 use Rattle.pj_image.specs.declared.stages.Declared.{Declared}
-use Rattle.pj_image.specs.Found.{◌>>=◌, or_fault, checked}
+use Rattle.pj_image.specs.Found.{or_fault, checked}
 use Rattle.pj_image.specs.Frames.{section, framed}
 use Rattle.pj_image.specs.File.{is_named, function_number, binding_number, declared_at}
 use Rattle.pj_image.specs.Names.{bindable, all_seen}
 use Rattle.pj_image.specs.Formed.{Counted}
 use Rattle.pj_image.proofs.Founds.{found_some, checked_true, ok_is}
 use Rattle.pj_image.proofs.SectionLaws.{strings_laws, functions_laws, bindings_laws, nothings_laws}
-use Rattle.pj_image.proofs.Steps.{bind_then, Read, read_section, read_again, joined, two_seen, both_of}
+use Rattle.pj_image.proofs.Steps.{bind_then, read_section, read_again, joined, two_seen, both_of}
 
 abbrev pub declared_put : Declared → List ℕ
 declared_put d =
@@ -54,21 +54,21 @@ declared_takes name bytes x are e =
     bind_then {C = DeclaredRead name bytes x} (or_fault 5 (framed 5 (list_at binding_at) d.1)) _ x e6 (λ f hf e7.
     bind_then {C = DeclaredRead name bytes x} (or_fault 5 (all_seen bindable b.0 seen (map binding_number f.0))) _ x e7 (λ both hn e8.
     bind_then {C = DeclaredRead name bytes x} (or_fault 6 (framed 6 (list_at (nothing_at {A = Object})) f.1)) _ x e8 (λ o ho e9.
-      let s1 = read_section head head_at HeadFits head_laws 1 (omega arith) bytes a are ha in
-      let s2 = read_section (list text) (list_at text_at) (ListFits TextFits) strings_laws 2 (omega arith) a.1 b s1.rest hb in
-      let s3 = read_section (list type_def) (list_at (nothing_at {A = TypeDef})) (ListFits (NoneYet {A = TypeDef})) (nothings_laws type_def) 3 (omega arith) b.1 c s2.rest hc in
-      let s4 = read_section (list fun_def) (list_at fun_def_at) (ListFits FunDefFits) functions_laws 4 (omega arith) c.1 d s3.rest hd in
-      let s5 = read_section (list binding) (list_at binding_at) (ListFits BindingFits) bindings_laws 5 (omega arith) d.1 f s4.rest hf in
-      let s6 = read_section (list object) (list_at (nothing_at {A = Object})) (ListFits (NoneYet {A = Object})) (nothings_laws object) 6 (omega arith) f.1 o s5.rest ho in
-      let p5 = joined d.1 (section 5 (list binding f.0)) f.1 (section 6 (list object o.0)) o.1 s5.parts s6.parts in
-      let p4 = joined c.1 (section 4 (list fun_def d.0)) d.1 (section 5 (list binding f.0) ++ section 6 (list object o.0)) o.1 s4.parts p5 in
-      let p3 = joined b.1 (section 3 (list type_def c.0)) c.1 (section 4 (list fun_def d.0) ++ (section 5 (list binding f.0) ++ section 6 (list object o.0))) o.1 s3.parts p4 in
-      let p2 = joined a.1 (section 2 (list text b.0)) b.1 (section 3 (list type_def c.0) ++ (section 4 (list fun_def d.0) ++ (section 5 (list binding f.0) ++ section 6 (list object o.0)))) o.1 s2.parts p3 in
-      let p1 = joined bytes (section 1 (head a.0)) a.1 (section 2 (list text b.0) ++ (section 3 (list type_def c.0) ++ (section 4 (list fun_def d.0) ++ (section 5 (list binding f.0) ++ section 6 (list object o.0))))) o.1 s1.parts p2 in
-      let result : Declared = record { head = a.0; strings = b.0; types = c.0; functions = d.0; bindings = f.0; objects = o.0 } in
-      let names : is_some (declared_names result) ≡ true = two_seen (all_seen bindable b.0 [] (map function_number d.0)) (λ seen. all_seen bindable b.0 seen (map binding_number f.0)) seen both (found_some 4 (all_seen bindable b.0 [] (map function_number d.0)) seen hs) (found_some 5 (all_seen bindable b.0 seen (map binding_number f.0)) both hn) in
-      let fits : DeclaredFits name result = record { head = s1.counted; strings = s2.counted; types = s3.counted; functions = s4.counted; bindings = s5.counted; objects = s6.counted; named = checked_true 1 (is_named name a.0) u hu; names = names } in
-      subst (λ (y : Declared × List ℕ). DeclaredRead name bytes y) (ok_is (result, o.1) x e9) (record { fits = fits; parts = p1; rest = s6.rest }))))))))))
+    let s1 = read_section head head_at HeadFits head_laws 1 (omega arith) bytes a are ha in
+    let s2 = read_section (list text) (list_at text_at) (ListFits TextFits) strings_laws 2 (omega arith) a.1 b s1.rest hb in
+    let s3 = read_section (list type_def) (list_at (nothing_at {A = TypeDef})) (ListFits (NoneYet {A = TypeDef})) (nothings_laws type_def) 3 (omega arith) b.1 c s2.rest hc in
+    let s4 = read_section (list fun_def) (list_at fun_def_at) (ListFits FunDefFits) functions_laws 4 (omega arith) c.1 d s3.rest hd in
+    let s5 = read_section (list binding) (list_at binding_at) (ListFits BindingFits) bindings_laws 5 (omega arith) d.1 f s4.rest hf in
+    let s6 = read_section (list object) (list_at (nothing_at {A = Object})) (ListFits (NoneYet {A = Object})) (nothings_laws object) 6 (omega arith) f.1 o s5.rest ho in
+    let p5 = joined d.1 (section 5 (list binding f.0)) f.1 (section 6 (list object o.0)) o.1 s5.parts s6.parts in
+    let p4 = joined c.1 (section 4 (list fun_def d.0)) d.1 (section 5 (list binding f.0) ++ section 6 (list object o.0)) o.1 s4.parts p5 in
+    let p3 = joined b.1 (section 3 (list type_def c.0)) c.1 (section 4 (list fun_def d.0) ++ (section 5 (list binding f.0) ++ section 6 (list object o.0))) o.1 s3.parts p4 in
+    let p2 = joined a.1 (section 2 (list text b.0)) b.1 (section 3 (list type_def c.0) ++ (section 4 (list fun_def d.0) ++ (section 5 (list binding f.0) ++ section 6 (list object o.0)))) o.1 s2.parts p3 in
+    let p1 = joined bytes (section 1 (head a.0)) a.1 (section 2 (list text b.0) ++ (section 3 (list type_def c.0) ++ (section 4 (list fun_def d.0) ++ (section 5 (list binding f.0) ++ section 6 (list object o.0))))) o.1 s1.parts p2 in
+    let result : Declared = record { head = a.0; strings = b.0; types = c.0; functions = d.0; bindings = f.0; objects = o.0 } in
+    let names : is_some (declared_names result) ≡ true = two_seen (all_seen bindable b.0 [] (map function_number d.0)) (λ seen. all_seen bindable b.0 seen (map binding_number f.0)) seen both (found_some 4 (all_seen bindable b.0 [] (map function_number d.0)) seen hs) (found_some 5 (all_seen bindable b.0 seen (map binding_number f.0)) both hn) in
+    let fits : DeclaredFits name result = record { head = s1.counted; strings = s2.counted; types = s3.counted; functions = s4.counted; bindings = s5.counted; objects = s6.counted; named = checked_true 1 (is_named name a.0) u hu; names = names } in
+    subst (λ (y : Declared × List ℕ). DeclaredRead name bytes y) (ok_is (result, o.1) x e9) (record { fits = fits; parts = p1; rest = s6.rest }))))))))))
 
 regroup : (a b c d f o rest : List ℕ) → (a ++ (b ++ (c ++ (d ++ (f ++ o))))) ++ rest ≡ a ++ (b ++ (c ++ (d ++ (f ++ (o ++ rest)))))
 regroup a b c d f o rest = simp append_assoc

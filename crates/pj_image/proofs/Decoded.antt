@@ -1,5 +1,5 @@
 -- What the answer of reading says of spellings.
-use Rattle.std.proofs.Common.{◌≡◌, ℕ, List, Result, Ok, Err, refl, sym, ap, ◌∙◌}
+use Rattle.std.proofs.Common.{◌≡◌, ℕ, List, Result, Ok, Err, sym, ap, ◌∙◌}
 use Rattle.std.specs.Prelude.{IfOk}
 use Rattle.pj_fields.proofs.Laws.{IsBytes}
 use Rattle.pj_image.specs.declared.image.Image.{Image}

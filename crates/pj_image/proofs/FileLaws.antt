@@ -1,6 +1,6 @@
 -- The two laws of files.
-use Rattle.std.proofs.Common.{◌≡◌, ℕ, ◌+◌, ◌-◌, ◌^◌, ◌<◌, ◌≤◌, Bool, true, false, cond, ltb, List, [], ◌∷◌, ◌++◌, length, take, drop, Option, Some, None, Result, Ok, Err, Decides, refl, sym, ap, subst, ◌∙◌, append_assoc, arith}
-use Rattle.std.specs.Prelude.{◌&&◌, not, is_some}
+use Rattle.std.proofs.Common.{◌≡◌, ℕ, ◌+◌, ◌-◌, ◌≤◌, Bool, true, false, cond, ltb, List, ◌++◌, length, take, drop, Some, Result, Ok, Err, refl, sym, ap, subst, ◌∙◌, append_assoc, arith}
+use Rattle.std.specs.Prelude.{not}
 use Rattle.std.specs.Str.{bytes_eq}
 use Rattle.std.proofs.lemmas.Slice.Eq.{bytes_eq-Decides}
 use Rattle.std.proofs.lemmas.Bool.{ltb-false, le-ltb}
@@ -8,7 +8,7 @@ use Rattle.std.proofs.lemmas.List.{take_at, drop_at, take-append-drop, length-ap
 use Rattle.sha2.specs.Sha256.{sha256}
 use Rattle.sha2.proofs.Facts256.{length-sha256}
 use Rattle.pj_words.specs.Words.{is_package_name}
-use Rattle.pj_fields.specs.Fields.{number, list, list_at}
+use Rattle.pj_fields.specs.Fields.{number, list}
 use Rattle.pj_fields.proofs.Laws.{IsBytes, IsBytes-take, IsBytes-drop, some_is}
 use Rattle.pj_tree.specs.Bytes.{tree}
 use Rattle.pj_parts.specs.declared.types.Head.{Head}
@@ -20,7 +20,6 @@ use Rattle.pj_image.specs.declared.image.Image.{Image}
 use Rattle.pj_image.specs.declared.stages.Declared.{Declared}
 use Rattle.pj_image.specs.declared.stages.Bodies.{Bodies}
 use Rattle.pj_image.specs.declared.stages.Ending.{Ending}
-use Rattle.pj_image.specs.Found.{◌>>=◌}
 use Rattle.pj_image.specs.Frames.{section, framed}
 use Rattle.pj_image.specs.File.{front, is_named, declared_at, bodies_at, ending_at, parts_at, sealed_at, file_at, image_of}
 use Rattle.pj_image.specs.Pieces.{placed}
@@ -84,13 +83,26 @@ parts_result name bytes size d b e is fd fb place fe parts =
     let at : b.place ≡ methods_place (image_of d b e) = place ∙ methods_at (image_of d b e) size size-is in
     record {
       formed = record {
-        head = fd.head; strings = fd.strings; types = fd.types; functions = fd.functions; bindings = fd.bindings; objects = fd.objects;
-        trees = fb.trees; methods = fb.methods; directives = fe.directives; records = fe.records; code = fe.code; entries = fe.entries;
-        named = named.1; names = fd.names; plain = fb.plain; fine = fb.fine;
-        right = subst (λ (p : ℕ). placed p b.methods e.entries ≡ true) at fe.right
+        head = fd.head;
+        strings = fd.strings;
+        types = fd.types;
+        functions = fd.functions;
+        bindings = fd.bindings;
+        objects = fd.objects;
+        trees = fb.trees;
+        methods = fb.methods;
+        directives = fe.directives;
+        records = fe.records;
+        code = fe.code;
+        entries = fe.entries;
+        named = named.1;
+        names = fd.names;
+        plain = fb.plain;
+        fine = fb.fine;
+        right = subst (λ (p : ℕ). placed p b.methods e.entries ≡ true) at fe.right;
       };
       called = same_bytes d.head.name name named.0;
-      parts = parts
+      parts = parts;
     }
 
 pub parts_takes : (name bytes : List ℕ) (size : ℕ) (i : Image) → IsBytes bytes → size ≡ 12 + length bytes → parts_at name size bytes ≡ Ok i → PartsRead name bytes i
@@ -99,12 +111,12 @@ parts_takes name bytes size i are is e =
     bind_then {C = PartsRead name bytes i} (declared_at name bytes) _ i e (λ d hd e1.
     bind_then {C = PartsRead name bytes i} (bodies_at d.0.strings size d.1) _ i e1 (λ b hb e2.
     bind_then {C = PartsRead name bytes i} (ending_at b.0.place b.0.methods b.1) _ i e2 (λ g hg e3.
-      let rd = declared_takes name bytes d are hd in
-      let rb = bodies_takes d.0.strings size d.1 b rd.rest hb in
-      let rg = ending_takes b.0.place b.0.methods b.1 g rb.rest hg in
-      let place : b.0.place ≡ size - length (section 8 (list method b.0.methods) ++ ending_put g) + 8 = rb.place ∙ ap (λ (r : List ℕ). size - length (section 8 (list method b.0.methods) ++ r) + 8) rg.parts in
-      let parts : bytes ≡ declared_put d.0 ++ (bodies_put b.0 ++ ending_put g) = rd.parts ∙ ap (λ (r : List ℕ). declared_put d.0 ++ r) (rb.parts ∙ ap (λ (r : List ℕ). bodies_put b.0 ++ r) rg.parts) in
-      subst (λ (y : Image). PartsRead name bytes y) (ok_is (image_of d.0 b.0 g) i e3) (parts_result name bytes size d.0 b.0 g is rd.fits rb.fits place rg.fits parts))))
+    let rd = declared_takes name bytes d are hd in
+    let rb = bodies_takes d.0.strings size d.1 b rd.rest hb in
+    let rg = ending_takes b.0.place b.0.methods b.1 g rb.rest hg in
+    let place : b.0.place ≡ size - length (section 8 (list method b.0.methods) ++ ending_put g) + 8 = rb.place ∙ ap (λ (r : List ℕ). size - length (section 8 (list method b.0.methods) ++ r) + 8) rg.parts in
+    let parts : bytes ≡ declared_put d.0 ++ (bodies_put b.0 ++ ending_put g) = rd.parts ∙ ap (λ (r : List ℕ). declared_put d.0 ++ r) (rb.parts ∙ ap (λ (r : List ℕ). bodies_put b.0 ++ r) rg.parts) in
+    subst (λ (y : Image). PartsRead name bytes y) (ok_is (image_of d.0 b.0 g) i e3) (parts_result name bytes size d.0 b.0 g is rd.fits rb.fits place rg.fits parts))))
 
 pub parts_again : (i : Image) (size : ℕ) → size ≡ 12 + length (sections i) → Formed i → parts_at i.head.name size (sections i) ≡ Ok i
 unfolding parts_at

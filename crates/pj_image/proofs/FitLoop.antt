@@ -1,5 +1,5 @@
 -- One more of a list that is as P says.
-use Rattle.std.proofs.Common.{◌≡◌, ℕ, zero, suc, ◌+◌, ◌<◌, List, [], ◌∷◌, length, get_or, take, drop, sym, subst, add-one, arith}
+use Rattle.std.proofs.Common.{◌≡◌, ℕ, zero, suc, ◌+◌, ◌<◌, List, [], ◌∷◌, length, get_or, take, subst, add-one, arith}
 use Rattle.std.specs.List.{AllByRecursion}
 
 module _ {A : Type 0} (P : A → Type 0) where

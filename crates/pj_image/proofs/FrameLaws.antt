@@ -76,7 +76,7 @@ module _ {A : Type 0} (put : A → List ℕ) (get : Reader A) (P : A → Type 0)
   framed_again asked lt x rest fits =
       let payload = put x in
       let regrouped : section asked payload ++ rest ≡ number asked ++ (number (length payload) ++ (payload ++ rest)) =
-          append_assoc (number asked) (number (length payload) ++ payload) rest ∙ ap (λ (l : List ℕ). number asked ++ l) (append_assoc (number (length payload)) payload rest) in
+      append_assoc (number asked) (number (length payload) ++ payload) rest ∙ ap (λ (l : List ℕ). number asked ++ l) (append_assoc (number (length payload)) payload rest) in
       ap (framed asked get) regrouped ∙ rw (number_laws.again asked (number (length payload) ++ (payload ++ rest)) lt, number_laws.again (length payload) (payload ++ rest) fits.1) (sized_again asked x rest fits.0)
 
   pub framed_laws : (asked : ℕ) → asked < 2 ^ 32 → Laws (λ x. section asked (put x)) (framed asked get) (λ x. P x × (length (put x) < 2 ^ 32))

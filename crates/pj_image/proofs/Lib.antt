@@ -12,3 +12,4 @@ pub mod EndingLaws
 pub mod FileLaws
 pub mod Decoded
 pub mod Lengths
+pub mod Fits

@@ -1,13 +1,11 @@
 -- The two laws of each section's part.
-use Rattle.std.proofs.Common.{◌≡◌, ℕ, ◌+◌, List, length}
+use Rattle.std.proofs.Common.{ℕ, List}
 use Rattle.pj_fields.specs.Fields.{list, list_at}
-use Rattle.pj_fields.proofs.Laws.{IsBytes, Laws, list_laws}
+use Rattle.pj_fields.proofs.Laws.{Laws, list_laws}
 use Rattle.pj_tree.specs.Bytes.{tree}
 use Rattle.pj_tree.specs.Fits.{TreeFits}
 use Rattle.pj_tree.specs.Reading.{tree_at}
 use Rattle.pj_tree.proofs.TreeLaws.{tree_laws}
-use Rattle.pj_tree.specs.declared.tree.TreeNode.{TreeNode}
-use Rattle.pj_parts.specs.declared.types.Method.{Method}
 use Rattle.pj_parts.specs.Spelling.{text, fun_def, binding, method, entry}
 use Rattle.pj_parts.specs.Fits.{ListFits, NoneYet, TextFits, FunDefFits, BindingFits, MethodFits, EntryFits}
 use Rattle.pj_parts.specs.Reading.{nothing_at, text_at, fun_def_at, binding_at, method_at, entry_at}

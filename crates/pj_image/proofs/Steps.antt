@@ -1,9 +1,9 @@
 -- One section after another: what is read was put so, and what is put is read again.
-use Rattle.std.proofs.Common.{◌≡◌, ℕ, ◌^◌, ◌<◌, Bool, true, false, List, [], ◌++◌, Option, Some, None, Result, Ok, Err, refl, sym, ap, ◌∙◌, append_assoc}
+use Rattle.std.proofs.Common.{◌≡◌, ℕ, ◌^◌, ◌<◌, true, List, ◌++◌, Option, Some, None, Result, Ok, Err, refl, sym, ap, ◌∙◌, append_assoc}
 use Rattle.std.specs.Prelude.{is_some, option_and_then}
 use Rattle.pj_fields.specs.Fields.{Reader}
 use Rattle.pj_fields.proofs.Laws.{IsBytes, Laws}
-use Rattle.pj_image.specs.Found.{◌>>=◌, or_fault, checked}
+use Rattle.pj_image.specs.Found.{◌>>=◌, or_fault}
 use Rattle.pj_image.specs.Frames.{section, framed}
 use Rattle.pj_image.specs.Formed.{Counted}
 use Rattle.pj_image.proofs.Founds.{found_some}

@@ -1,5 +1,5 @@
 -- Walking over pieces, as loops do.
-use Rattle.std.proofs.Common.{◌≡◌, ℕ, zero, suc, ◌+◌, ◌*◌, ◌≤◌, ◌<◌, List, [], ◌∷◌, ◌++◌, map, length, get_or, take, drop, Option, Some, None, refl, sym, ap, subst, ◌∙◌, add-one, arith, length-append}
+use Rattle.std.proofs.Common.{◌≡◌, ℕ, suc, ◌+◌, ◌*◌, ◌≤◌, ◌<◌, List, [], ◌∷◌, ◌++◌, map, length, get_or, take, drop, Option, Some, None, refl, sym, ap, subst, ◌∙◌, add-one, arith, length-append}
 use Rattle.std.specs.Prelude.{option_and_then, option_map}
 use Rattle.std.specs.List.{flat_map}
 use Rattle.std.proofs.Math.Seq.{drop-cons}
@@ -12,7 +12,7 @@ use Rattle.pj_reloc.specs.declared.entry.Entry.{Entry}
 use Rattle.pj_parts.specs.declared.types.Method.{Method}
 use Rattle.pj_parts.specs.Spelling.{method}
 use Rattle.pj_parts.proofs.Sizes.{length-number, length-list}
-use Rattle.pj_image.specs.Pieces.{Piece, Plain, Mention, bytes_of, Walk, past, walk, walk_from, method_pieces}
+use Rattle.pj_image.specs.Pieces.{Piece, Plain, Mention, Walk, past, walk, walk_from, method_pieces}
 
 append_by : (ps qs : List Piece) → ((v : Walk) → walk (ps ++ qs) v ≡ option_and_then (λ u. walk qs u) (walk ps v)) → (v : Option Walk)
     → option_and_then (λ u. walk (ps ++ qs) u) v ≡ option_and_then (λ u. walk qs u) (option_and_then (λ u. walk ps u) v)

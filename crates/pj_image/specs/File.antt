@@ -1,5 +1,5 @@
 -- The parts of an image whose file these bytes are, or the first section at fault.
-use Rattle.std.specs.Prelude.{ℕ, ◌+◌, ◌-◌, Bool, List, [], ◌∷◌, ◌++◌, map, length, take, drop, codes, nat_lt, ◌==◌, ◌&&◌, not, if◌then◌else◌, Option, Some, None, Result, Ok, Err}
+use Rattle.std.specs.Prelude.{ℕ, ◌+◌, ◌-◌, Bool, List, [], ◌++◌, map, length, take, drop, codes, nat_lt, ◌==◌, ◌&&◌, not, if◌then◌else◌, Option, Some, Result, Ok, Err}
 use Rattle.std.specs.List.{list_all}
 use Rattle.std.specs.Str.{bytes_eq}
 use Rattle.sha2.specs.Sha256.{sha256}
@@ -75,9 +75,18 @@ ending_at place methods bytes = do
 
 abbrev pub image_of : Declared → Bodies → Ending → Image
 image_of d b e = record {
-  head = d.head; strings = d.strings; types = d.types; functions = d.functions; bindings = d.bindings; objects = d.objects;
-  trees = b.trees; methods = b.methods;
-  directives = e.directives; records = e.records; code = e.code; entries = e.entries
+  head = d.head;
+  strings = d.strings;
+  types = d.types;
+  functions = d.functions;
+  bindings = d.bindings;
+  objects = d.objects;
+  trees = b.trees;
+  methods = b.methods;
+  directives = e.directives;
+  records = e.records;
+  code = e.code;
+  entries = e.entries;
 }
 
 -- all sections, in a file in which they end at `size`

@@ -1,10 +1,12 @@
 -- The parts of an image that have spellings, some sections at a time.
-use Rattle.std.specs.Prelude.{◌≡◌, ◌<◌, ◌^◌, true, length}
+use Rattle.std.specs.Prelude.{◌≡◌, true}
 use Rattle.std.specs.List.{list_all}
 use Rattle.pj_tree.specs.Fits.{TreeFits}
 use Rattle.pj_parts.specs.Fits.{ListFits, NoneYet, TextFits, HeadFits, FunDefFits, BindingFits, MethodFits, EntryFits}
 use Rattle.pj_image.specs.declared.image.Image.{Image}
+use Rattle.pj_image.specs.Pieces.{placed, method_fine}
 use Rattle.pj_image.specs.PlainTrees.{is_plain}
+use Rattle.pj_image.specs.Spelled.{methods_place}
 
 pub record DeclaredFit (i : Image) : Type 0 where
   pub head : HeadFits i.head
@@ -24,3 +26,7 @@ pub record OthersFit (i : Image) : Type 0 where
   pub records : ListFits NoneYet i.records
   pub code : ListFits NoneYet i.code
   pub entries : ListFits EntryFits i.entries
+
+pub record MethodsRight (i : Image) : Type 0 where
+  pub fine : list_all (method_fine i.trees) i.methods ≡ true
+  pub right : placed (methods_place i) i.methods i.entries ≡ true

@@ -3,7 +3,6 @@ use Rattle.std.specs.Prelude.{ℕ, zero, suc, Bool, true, false, List, [], ◌�
 use Rattle.std.specs.Str.{bytes_eq}
 use Rattle.pj_base.specs.Interned.{found_at}
 use Rattle.pj_words.specs.Words.{is_identifier}
-use Rattle.pj_tree.specs.declared.tree.Sym.{Sym}
 use Rattle.pj_tree.specs.declared.tree.Expr.{Expr, out-Expr}
 use Rattle.pj_tree.specs.declared.tree.Expr.TheOpen.{Expr-F}
 use Rattle.pj_tree.specs.declared.tree.Stmt.{Stmt, out-Stmt}

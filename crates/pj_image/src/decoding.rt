@@ -43,12 +43,7 @@ fn has_front(bytes: &[u8]) -> bool
 }
 
 /// The image of this name whose bytes before the identity are `body`, with this identity.
-fn take_sealed(
-    alloc: Global,
-    name: &str,
-    body: &[u8],
-    seal: &[u8],
-) -> Result<Image, DecodeFault>
+fn take_sealed(alloc: Global, name: &str, body: &[u8], seal: &[u8]) -> Result<Image, DecodeFault>
     requires front { 12 ≤ length body.now }
     requires small { length body.now + 8 < 2 ^ 64 }
     ensures { Finds (λ x. x) result (sealed_at name.now body.now seal.now) }

@@ -43,11 +43,7 @@ fn take_sized<T: Part>(
 }
 
 #[tactic(auto, unfolding(crate::specs::Frames::framed))]
-fn take_framed<T: Part>(
-    alloc: Global,
-    asked: u32,
-    bytes: &[u8],
-) -> Result<(T, &[u8]), PartFault>
+fn take_framed<T: Part>(alloc: Global, asked: u32, bytes: &[u8]) -> Result<(T, &[u8]), PartFault>
     ensures { Gives (λ x. (x.0, x.1.now)) result (framed asked T.at bytes.now) }
 {
     let (found, rest) = u32::take(alloc, bytes)?;

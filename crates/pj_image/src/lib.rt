@@ -17,5 +17,6 @@ pub mod stages;
 pub use decoding::{decode, identity};
 pub use encoding::encode;
 pub use fault::DecodeFault;
+pub use fitness::image_ok;
 pub use image::Image;
 pub use measure::length;

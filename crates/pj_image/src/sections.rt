@@ -64,7 +64,13 @@ pub fn take_declared<'a>(
     let (types, rest) = take_section(alloc, 3, rest)?;
     let (functions, rest) = take_section::<Items<FunDef>>(alloc, 4, rest)?;
     let mut seen = Names::new(alloc);
-    see_section(alloc, 4, strings.as_slice(), functions.as_slice(), &mut seen)?;
+    see_section(
+        alloc,
+        4,
+        strings.as_slice(),
+        functions.as_slice(),
+        &mut seen,
+    )?;
     let (bindings, rest) = take_section::<Items<Binding>>(alloc, 5, rest)?;
     see_section(alloc, 5, strings.as_slice(), bindings.as_slice(), &mut seen)?;
     let (objects, rest) = take_section(alloc, 6, rest)?;

@@ -20,6 +20,6 @@ pub use fault::PartFault;
 pub use part::Part;
 pub use tested::Tested;
 pub use types::{
-    Binding, BindingForm, CodeRecord, CodeWord, Dependency, Directive, Edge, Element, FieldDef, FunDef, Head,
-    Method, Object, Outcome, TypeDef, TypeForm, Value,
+    Binding, BindingForm, CodeRecord, CodeWord, Dependency, Directive, Edge, Element, FieldDef,
+    FunDef, Head, Method, Object, Outcome, TypeDef, TypeForm, Value,
 };

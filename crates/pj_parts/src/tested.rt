@@ -4,7 +4,8 @@ ghost use Rattle.std.specs.Prelude.{◌↔◌, IsTrue};
 ghost use Rattle.std.specs.List.{AllByRecursion};
 
 use crate::types::{
-    Binding, CodeRecord, CodeWord, Dependency, Directive, FunDef, Head, Method, Object, TypeDef, Value,
+    Binding, CodeRecord, CodeWord, Dependency, Directive, FunDef, Head, Method, Object, TypeDef,
+    Value,
 };
 use pj_base::Text;
 use pj_reloc::Entry;

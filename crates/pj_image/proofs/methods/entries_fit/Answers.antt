@@ -1,4 +1,4 @@
-use Rattle.std.proofs.Common.{◌≡◌, ◌+◌, ◌*◌, length, refl, sym, ap, ◌∙◌, arith}
+use Rattle.std.proofs.Common.{◌≡◌, ◌+◌, ◌*◌, length, sym, ap, ◌∙◌, arith}
 use Rattle.std.specs.List.{flat_map}
 use Rattle.pj_image.specs.Pieces.{method_pieces, walk, walk_from, is_over}
 use Rattle.pj_image.proofs.Walking.{length-method, size_within, size_more, behind_method, method_goes_on, method_ends, methods_done}

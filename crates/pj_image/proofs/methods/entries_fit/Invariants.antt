@@ -9,5 +9,5 @@ invariant-loop-m l =
     record {
       walked : walk (flat_map method_pieces (drop l.m-index l.methods)) (walk_from l.next l.place l.rest) ≡ walk (flat_map method_pieces l.methods) (walk_from 0 l.at l.entries);
       each : length l.rest + l.next ≡ length l.entries;
-      place : l.place ≡ l.at + length (flat_map method (take l.m-index l.methods))
+      place : l.place ≡ l.at + length (flat_map method (take l.m-index l.methods));
     }

@@ -6,5 +6,5 @@ abbrev pub invariant-loop-i : goal.invariant-loop-i
 invariant-loop-i l =
     record {
       walked : walk (map Mention (drop l.i l.numbers)) (walk_from (l.next + l.i) (l.at + 4 * l.i) l.rest) ≡ walk (map Mention l.numbers) (walk_from l.next l.at l.left);
-      each : length l.rest + l.i ≡ length l.left
+      each : length l.rest + l.i ≡ length l.left;
     }

@@ -7,5 +7,5 @@ abbrev pub invariant-loop-named : goal.invariant-loop-named
 invariant-loop-named g l =
     record {
       seen : all_seen g.T.Named.good l.strings l.seen (map g.T.Named.number_of (drop l.named-index l.all)) ≡ all_seen g.T.Named.good l.strings l.initial.seen (map g.T.Named.number_of l.all);
-      range : AllByRecursion g.T.Named.in_range (take l.named-index l.all)
+      range : AllByRecursion g.T.Named.in_range (take l.named-index l.all);
     }

@@ -8,5 +8,5 @@ abbrev pub invariant-loop-t : goal.invariant-loop-t
 invariant-loop-t l =
     record {
       plain : list_all (is_plain l.strings) (take l.t-index l.trees) ≡ true;
-      fits : AllByRecursion TreeFits (take l.t-index l.trees)
+      fits : AllByRecursion TreeFits (take l.t-index l.trees);
     }

@@ -1,4 +1,4 @@
-use Rattle.std.proofs.Common.{◌≡◌, ◌+◌, ◌≤◌, length, Some, arith}
+use Rattle.std.proofs.Common.{arith}
 use Rattle.pj_fields.specs.Fields.{list, list_at}
 use Rattle.pj_fields.proofs.Laws.{IsBytes}
 use Rattle.pj_tree.specs.Bytes.{tree}

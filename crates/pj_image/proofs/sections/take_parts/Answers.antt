@@ -1,4 +1,4 @@
-use Rattle.std.proofs.Common.{◌++◌, length, ap, arith}
+use Rattle.std.proofs.Common.{length, ap, arith}
 use Rattle.std.proofs.lemmas.List.{length-append}
 use Rattle.pj_fields.proofs.Laws.{IsBytes}
 use Rattle.pj_image.proofs.DeclaredLaws.{declared_put, declared_takes}
