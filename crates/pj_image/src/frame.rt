@@ -90,7 +90,7 @@ pub fn put_section<T: Part>(
     ensures { OnOk result (out.new ≡ out.old ++ section asked (T.bytes part.now)) }
 {
     let mut payload = ByteList::new(alloc);
-    part.put(&mut payload)?;
+    part.put(alloc, &mut payload)?;
     put_number(asked, out)?;
     put_number(payload.len() as u32, out)?;
     out.extend(payload.as_slice())

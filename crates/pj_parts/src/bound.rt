@@ -24,7 +24,7 @@ impl Part for BindingForm {
 
     ghost at = { binding_form_at };
 
-    fn put(&self, out: &mut ByteList) -> Result<(), NoMemory> {
+    fn put(&self, _alloc: Global, out: &mut ByteList) -> Result<(), NoMemory> {
         match self {
             BindingForm::Const => put_number(0, out),
             BindingForm::Global => put_number(1, out),
@@ -104,7 +104,7 @@ impl Part for Value {
     ghost at = { value_at };
 
     #[tactic(auto, using(crate::proofs::Values::value_spelling))]
-    fn put(&self, out: &mut ByteList) -> Result<(), NoMemory> {
+    fn put(&self, _alloc: Global, out: &mut ByteList) -> Result<(), NoMemory> {
         match self {
             Value::Int(of) => put_integer(*of, out),
             Value::Nothing => Ok(()),
@@ -146,10 +146,10 @@ impl Part for Binding {
     ghost at = { binding_at };
 
     #[tactic(auto, using(crate::proofs::Joined::joined))]
-    fn put(&self, out: &mut ByteList) -> Result<(), NoMemory> {
-        self.name.put(out)?;
-        self.form.put(out)?;
-        self.value.put(out)
+    fn put(&self, alloc: Global, out: &mut ByteList) -> Result<(), NoMemory> {
+        self.name.put(alloc, out)?;
+        self.form.put(alloc, out)?;
+        self.value.put(alloc, out)
     }
 
     #[tactic(auto, unfolding(crate::specs::Reading::binding_at))]

@@ -21,7 +21,7 @@ impl Part for FieldDef {
 
     ghost at = { nothing_at };
 
-    fn put(&self, _out: &mut ByteList) -> Result<(), NoMemory> {
+    fn put(&self, _alloc: Global, _out: &mut ByteList) -> Result<(), NoMemory> {
         Ok(())
     }
 
@@ -47,7 +47,7 @@ impl Part for TypeDef {
 
     ghost at = { nothing_at };
 
-    fn put(&self, _out: &mut ByteList) -> Result<(), NoMemory> {
+    fn put(&self, _alloc: Global, _out: &mut ByteList) -> Result<(), NoMemory> {
         Ok(())
     }
 
@@ -74,8 +74,8 @@ impl Part for FunDef {
     ghost at = { fun_def_at };
 
     #[tactic(auto, using(crate::proofs::Joined::joined))]
-    fn put(&self, out: &mut ByteList) -> Result<(), NoMemory> {
-        self.name.put(out)
+    fn put(&self, alloc: Global, out: &mut ByteList) -> Result<(), NoMemory> {
+        self.name.put(alloc, out)
     }
 
     fn take(alloc: Global, source: &[u8]) -> Result<(FunDef, &[u8]), PartFault> {

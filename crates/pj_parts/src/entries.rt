@@ -22,7 +22,7 @@ impl Part for KindTag {
 
     ghost at = { kind_at };
 
-    fn put(&self, out: &mut ByteList) -> Result<(), NoMemory> {
+    fn put(&self, _alloc: Global, out: &mut ByteList) -> Result<(), NoMemory> {
         put_number(self.number(), out)
     }
 
@@ -53,11 +53,11 @@ impl Part for Entry {
     ghost at = { entry_at };
 
     #[tactic(auto, using(crate::proofs::Joined::joined))]
-    fn put(&self, out: &mut ByteList) -> Result<(), NoMemory> {
-        self.place.put(out)?;
-        self.kind.put(out)?;
-        self.dependency.put(out)?;
-        self.ordinal.put(out)
+    fn put(&self, alloc: Global, out: &mut ByteList) -> Result<(), NoMemory> {
+        self.place.put(alloc, out)?;
+        self.kind.put(alloc, out)?;
+        self.dependency.put(alloc, out)?;
+        self.ordinal.put(alloc, out)
     }
 
     #[tactic(auto, unfolding(crate::specs::Reading::entry_at))]

@@ -22,7 +22,7 @@ impl Part for Dependency {
 
     ghost at = { nothing_at };
 
-    fn put(&self, _out: &mut ByteList) -> Result<(), NoMemory> {
+    fn put(&self, _alloc: Global, _out: &mut ByteList) -> Result<(), NoMemory> {
         Ok(())
     }
 
@@ -49,9 +49,9 @@ impl Part for Head {
     ghost at = { head_at };
 
     #[tactic(auto, using(crate::proofs::Joined::joined))]
-    fn put(&self, out: &mut ByteList) -> Result<(), NoMemory> {
-        self.name.put(out)?;
-        self.dependencies.put(out)
+    fn put(&self, alloc: Global, out: &mut ByteList) -> Result<(), NoMemory> {
+        self.name.put(alloc, out)?;
+        self.dependencies.put(alloc, out)
     }
 
     #[tactic(auto, unfolding(crate::specs::Reading::head_at))]

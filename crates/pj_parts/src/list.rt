@@ -15,14 +15,14 @@ use std::alloc::Global;
 
 /// How many there are, and each of them.
 #[tactic(auto, unfolding(pj_fields::specs::Fields::list))]
-fn put_list<T: Part>(all: &[T], out: &mut ByteList) -> Result<(), NoMemory>
+fn put_list<T: Part>(alloc: Global, all: &[T], out: &mut ByteList) -> Result<(), NoMemory>
     requires few { length all.now < 2 ^ 32 }
     requires fit { AllByRecursion T.fits all.now }
     ensures { OnOk result (out.new ≡ out.old ++ list T.bytes all.now) }
 {
     put_number(all.len() as u32, out)?;
     for part in all {
-        part.put(out)?;
+        part.put(alloc, out)?;
     }
     Ok(())
 }
@@ -76,8 +76,8 @@ impl<T: Part> Part for Items<T> {
 
     ghost at = { list_at T.at };
 
-    fn put(&self, out: &mut ByteList) -> Result<(), NoMemory> {
-        put_list(self.as_slice(), out)
+    fn put(&self, alloc: Global, out: &mut ByteList) -> Result<(), NoMemory> {
+        put_list(alloc, self.as_slice(), out)
     }
 
     fn take(alloc: Global, source: &[u8]) -> Result<(Items<T>, &[u8]), PartFault> {

@@ -22,7 +22,7 @@ impl Part for Object {
 
     ghost at = { nothing_at };
 
-    fn put(&self, _out: &mut ByteList) -> Result<(), NoMemory> {
+    fn put(&self, _alloc: Global, _out: &mut ByteList) -> Result<(), NoMemory> {
         Ok(())
     }
 
@@ -49,10 +49,10 @@ impl Part for Method {
     ghost at = { method_at };
 
     #[tactic(auto, using(crate::proofs::Joined::joined))]
-    fn put(&self, out: &mut ByteList) -> Result<(), NoMemory> {
-        self.fun.put(out)?;
-        self.types.put(out)?;
-        self.body.put(out)
+    fn put(&self, alloc: Global, out: &mut ByteList) -> Result<(), NoMemory> {
+        self.fun.put(alloc, out)?;
+        self.types.put(alloc, out)?;
+        self.body.put(alloc, out)
     }
 
     #[tactic(auto, unfolding(crate::specs::Reading::method_at))]
@@ -80,7 +80,7 @@ impl Part for Directive {
 
     ghost at = { nothing_at };
 
-    fn put(&self, _out: &mut ByteList) -> Result<(), NoMemory> {
+    fn put(&self, _alloc: Global, _out: &mut ByteList) -> Result<(), NoMemory> {
         Ok(())
     }
 

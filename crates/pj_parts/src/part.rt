@@ -18,7 +18,7 @@ pub trait Part: Drop {
     ghost at: { List ℕ → Option (Self × List ℕ) };
 
     /// Adds the bytes at the end.
-    fn put(&self, out: &mut ByteList) -> Result<(), NoMemory>
+    fn put(&self, alloc: Global, out: &mut ByteList) -> Result<(), NoMemory>
         requires { fits self.now }
         ensures { OnOk result (out.new ≡ out.old ++ bytes self.now) };
 

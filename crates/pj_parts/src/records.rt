@@ -21,7 +21,7 @@ impl Part for Element {
 
     ghost at = { nothing_at };
 
-    fn put(&self, _out: &mut ByteList) -> Result<(), NoMemory> {
+    fn put(&self, _alloc: Global, _out: &mut ByteList) -> Result<(), NoMemory> {
         Ok(())
     }
 
@@ -51,7 +51,7 @@ impl Part for Outcome {
 
     ghost at = { nothing_at };
 
-    fn put(&self, _out: &mut ByteList) -> Result<(), NoMemory> {
+    fn put(&self, _alloc: Global, _out: &mut ByteList) -> Result<(), NoMemory> {
         Ok(())
     }
 
@@ -80,7 +80,7 @@ impl Part for Edge {
 
     ghost at = { nothing_at };
 
-    fn put(&self, _out: &mut ByteList) -> Result<(), NoMemory> {
+    fn put(&self, _alloc: Global, _out: &mut ByteList) -> Result<(), NoMemory> {
         Ok(())
     }
 
@@ -121,7 +121,7 @@ impl Part for CodeRecord {
 
     ghost at = { nothing_at };
 
-    fn put(&self, _out: &mut ByteList) -> Result<(), NoMemory> {
+    fn put(&self, _alloc: Global, _out: &mut ByteList) -> Result<(), NoMemory> {
         Ok(())
     }
 
@@ -149,7 +149,7 @@ impl Part for CodeWord {
 
     ghost at = { nothing_at };
 
-    fn put(&self, _out: &mut ByteList) -> Result<(), NoMemory> {
+    fn put(&self, _alloc: Global, _out: &mut ByteList) -> Result<(), NoMemory> {
         Ok(())
     }
 

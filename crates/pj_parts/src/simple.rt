@@ -24,7 +24,7 @@ impl Part for u32 {
 
     ghost at = { number_at };
 
-    fn put(&self, out: &mut ByteList) -> Result<(), NoMemory> {
+    fn put(&self, _alloc: Global, out: &mut ByteList) -> Result<(), NoMemory> {
         put_number(*self, out)
     }
 
@@ -52,7 +52,7 @@ impl Part for Text {
 
     ghost at = { text_at };
 
-    fn put(&self, out: &mut ByteList) -> Result<(), NoMemory> {
+    fn put(&self, _alloc: Global, out: &mut ByteList) -> Result<(), NoMemory> {
         let bytes = self.as_str().as_bytes();
         put_number(bytes.len() as u32, out)?;
         out.extend(bytes)

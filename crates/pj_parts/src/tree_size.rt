@@ -2,8 +2,8 @@
 
 ghost use Rattle.std.specs.Prelude.{◌≡◌, length};
 ghost use Rattle.pj_fields.specs.Fields.{list};
-ghost use Rattle.pj_tree.specs.Bytes.{sym, syms, param, params, expr, stmt, tree};
-ghost use Rattle.pj_tree.specs.Spelled.{part, payload, body, definition};
+ghost use Rattle.pj_tree.specs.Bytes.{sym, syms, param, params, part_bytes, expr, stmt, tree};
+ghost use Rattle.pj_tree.specs.Spelled.{payload, body, definition};
 ghost use Rattle.pj_parts.specs.Capped.{capped};
 
 use pj_tree::{Body, DefTree, Expr, Param, Part, Payload, Stmt, Sym, TreeNode};
@@ -93,7 +93,7 @@ fn params_size(all: &[Param]) -> u64
 /// A tree that is held and not numbered has no bytes.
 #[tactic(auto, using(crate::proofs::TreeSizes::tree_sizes))]
 fn part_size(p: &Part) -> u64
-    ensures { result ≡ length (part p.now) }
+    ensures { result ≡ length (part_bytes p.now) }
 {
     match p {
         Part::Number(_) => 4,

@@ -38,8 +38,8 @@ impl Part for TreeNode {
 
     ghost at = { tree_at };
 
-    fn put(&self, out: &mut ByteList) -> Result<(), NoMemory> {
-        encode_tree(self, out)
+    fn put(&self, alloc: Global, out: &mut ByteList) -> Result<(), NoMemory> {
+        encode_tree(alloc, self, out)
     }
 
     fn take(alloc: Global, source: &[u8]) -> Result<(TreeNode, &[u8]), PartFault> {
