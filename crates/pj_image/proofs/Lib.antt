@@ -13,3 +13,4 @@ pub mod FileLaws
 pub mod Decoded
 pub mod Lengths
 pub mod Fits
+pub mod PieceLaws

@@ -3,6 +3,7 @@ pub mod Fitting
 pub mod Formed
 pub mod Found
 pub mod Frames
+pub mod Mentions
 pub mod Names
 pub mod Pieces
 pub mod PlainTrees

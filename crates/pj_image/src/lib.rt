@@ -10,6 +10,7 @@ pub mod image;
 pub mod measure;
 pub mod methods;
 pub mod named;
+pub mod pieces;
 pub mod plain;
 pub mod sections;
 pub mod stages;

@@ -1,8 +1,10 @@
 use crate::bits::Bit::{self, N};
 use crate::bits::{Damage, body, fault, sealed};
 use crate::rows::{DAMAGES, ENTRIES, IDENTITY, MODULE_Q, SECTIONS};
-use pj_base::NoMemory;
+use pj_base::{KFun, KTree, KType, Kind, KindTag, NoMemory};
 use pj_image::{decode, encode, identity, image_ok, length};
+use pj_reloc::{Counts, DepTable, Entry, resolve};
+use sqlite_items::Items;
 use std::alloc::Global;
 use std::test::Fail;
 
@@ -202,5 +204,58 @@ fn damaged_headers_of_sections(rt: HostRuntime) -> Result<(), Fail> {
     }
     assert_eq!(rt; header_fault(alloc, 12, 12, 1, &ENTRIES)?, 12);
     assert_eq!(rt; header_fault(alloc, 12, 13, 0, &ENTRIES)?, 12);
+    Ok(())
+}
+
+/// Of the asked kind, what an entry names over Base and an image with one function, as the image's number and the ordinal.
+fn named<K: Kind>(
+    alloc: Global,
+    kind: KindTag,
+    dependency: u32,
+    ordinal: u32,
+) -> Result<Option<(u32, u64)>, NoMemory> {
+    let base = Counts {
+        image: 0,
+        types: 11,
+        funs: 18,
+        methods: 26,
+        bindings: 0,
+        objects: 0,
+        records: 0,
+        trees: 0,
+    };
+    let own = Counts {
+        image: 3,
+        types: 0,
+        funs: 1,
+        methods: 1,
+        bindings: 1,
+        objects: 0,
+        records: 0,
+        trees: 1,
+    };
+    let mut images = Items::new(alloc);
+    images.push(base)?;
+    images.push(own)?;
+    let entry = Entry {
+        place: 0,
+        kind,
+        dependency,
+        ordinal,
+    };
+    let target = resolve::<K>(&entry, &DepTable { images });
+    Ok(target.map(|t| (t.image, t.ordinal)))
+}
+
+#[test]
+fn entries_name_targets(rt: HostRuntime) -> Result<(), Fail> {
+    let alloc = rt.alloc();
+    assert_eq!(rt; named::<KType>(alloc, KindTag::TypeKind, 0, 10)?, Some((0, 10)));
+    assert_eq!(rt; named::<KType>(alloc, KindTag::TypeKind, 0, 11)?, None);
+    assert_eq!(rt; named::<KFun>(alloc, KindTag::TypeKind, 0, 5)?, None);
+    assert_eq!(rt; named::<KFun>(alloc, KindTag::FunKind, 1, 0)?, Some((3, 0)));
+    assert_eq!(rt; named::<KFun>(alloc, KindTag::FunKind, 1, 1)?, None);
+    assert_eq!(rt; named::<KFun>(alloc, KindTag::FunKind, 2, 0)?, None);
+    assert_eq!(rt; named::<KTree>(alloc, KindTag::TreeKind, 1, 0)?, Some((3, 0)));
     Ok(())
 }
