@@ -1,0 +1,11 @@
+pub mod Closing
+pub mod Expressions
+pub mod Frames
+pub mod Levels
+pub mod Machine
+pub mod Makers
+pub mod Modules
+pub mod Operands
+pub mod Statements
+pub mod Texts
+pub mod Tokens
