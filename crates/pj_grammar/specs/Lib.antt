@@ -6,6 +6,12 @@ pub mod Machine
 pub mod Makers
 pub mod Modules
 pub mod Operands
+pub mod RowTexts
+pub mod RowsExpressions
+pub mod RowsItems
+pub mod RowsPackages
+pub mod RowsPlaces
+pub mod RowsStatements
 pub mod Statements
 pub mod Texts
 pub mod Tokens
