@@ -5,6 +5,7 @@ pub mod Levels
 pub mod Machine
 pub mod Makers
 pub mod Modules
+pub mod Need
 pub mod Operands
 pub mod RowTexts
 pub mod RowsExpressions
@@ -14,4 +15,5 @@ pub mod RowsPlaces
 pub mod RowsStatements
 pub mod Statements
 pub mod Texts
+pub mod Theorems
 pub mod Tokens
