@@ -1,1 +1,4 @@
+pub mod Begin
 pub mod Computing
+pub mod Follow
+pub mod Levels
