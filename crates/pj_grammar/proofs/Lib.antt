@@ -1,4 +1,6 @@
+pub mod Adding
 pub mod Begin
 pub mod Computing
 pub mod Follow
 pub mod Levels
+pub mod Reading
