@@ -4,3 +4,4 @@ pub mod Computing
 pub mod Follow
 pub mod Levels
 pub mod Reading
+pub mod Stepping
