@@ -100,8 +100,8 @@ reads-named {modules} (of_module p q o m x is) s k takes adm =
       value = refl;
       dots = λ h. refl;
       runs = λ r. runs-step modules (name p m) (sign q signs.Dot ∷ name o x ∷ r) s _ (takes p m)
-        ∙ runs-step modules (sign q signs.Dot) (name o x ∷ r) _ _ (step-module modules (spot p m) k q is adm)
-        ∙ runs-step modules (name o x) r _ _ (step-member modules (spot p m) k o x);
+          ∙ runs-step modules (sign q signs.Dot) (name o x ∷ r) _ _ (step-module modules (spot p m) k q is adm)
+          ∙ runs-step modules (name o x) r _ _ (step-member modules (spot p m) k o x);
     }
 
 pub reads-callee : {modules : Modules} {ts : List Token} {f : Path} → is_module modules (codes "Base") ≡ true → Callee modules ts f → (s : State) (k : List Frame)
@@ -115,7 +115,7 @@ reads-callee {modules} base (operator p q c o s' is) s k takes adm =
       value = refl;
       dots = λ h. refl;
       runs = λ r. runs-step modules (name p (codes "Base")) (sign q signs.Dot ∷ sign c signs.Colon ∷ sign o s' ∷ r) s _ (takes p (codes "Base"))
-        ∙ runs-step modules (sign q signs.Dot) (sign c signs.Colon ∷ sign o s' ∷ r) _ _ (step-module modules (spot p (codes "Base")) k q base (admits-tighter k levels.Callee levels.Named adm refl))
-        ∙ runs-step modules (sign c signs.Colon) (sign o s' ∷ r) _ _ (step-base modules p k c adm)
-        ∙ runs-step modules (sign o s') r _ _ (step-operator modules (spot p (codes "Base")) k o s' is);
+          ∙ runs-step modules (sign q signs.Dot) (sign c signs.Colon ∷ sign o s' ∷ r) _ _ (step-module modules (spot p (codes "Base")) k q base (admits-tighter k levels.Callee levels.Named adm refl))
+          ∙ runs-step modules (sign c signs.Colon) (sign o s' ∷ r) _ _ (step-base modules p k c adm)
+          ∙ runs-step modules (sign o s') r _ _ (step-operator modules (spot p (codes "Base")) k o s' is);
     }
