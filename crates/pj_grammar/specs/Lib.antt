@@ -10,6 +10,7 @@ pub mod Operands
 pub mod RowTexts
 pub mod RowsExpressions
 pub mod RowsItems
+pub mod RowsNeeds
 pub mod RowsPackages
 pub mod RowsPlaces
 pub mod RowsStatements

@@ -24,6 +24,7 @@ use Rattle.pj_grammar.specs.declared.mode.Parsed.TheVariants as parsed
 use Rattle.pj_grammar.specs.Frames.{State}
 use Rattle.pj_grammar.specs.Machine.{accepted, run, start, step}
 use Rattle.pj_grammar.specs.Modules.{Modules, modules_of}
+use Rattle.pj_grammar.specs.Need.{need}
 use Rattle.pj_grammar.specs.Texts.{Kind, script, «package»}
 use Rattle.pj_grammar.specs.Tokens.{token}
 
@@ -167,3 +168,26 @@ of_at p m q x = paths.Of (spot_at p m) (spot_at q x)
 
 abbrev pub argument_at : ℕ → Expr → Argument
 argument_at p e = record { at = p; value = e }
+
+-- how deep a text nests at least that begins with these words
+abbrev pub need_of : Option State → Option ℕ
+need_of None = None
+need_of (Some s) = Some (need s)
+
+abbrev pub fresh : List Token → List Token
+fresh [] = []
+fresh (t ∷ []) = []
+fresh (t ∷ ts) = t ∷ fresh ts
+
+unfoldable pub needed : Kind → Bytes → Option ℕ
+needed kind w = need_of (run (modules_of (own_name kind) (tokens 1 w)) (fresh (tokens 1 w)) (Some (start kind)))
+
+pub record Needed : Type 0 where
+  pub found : Option ℕ
+  pub expected : Option ℕ
+
+abbrev pub needs : Kind → Bytes → ℕ → Needed
+needs kind w n = record { found = needed kind w; expected = Some n }
+
+abbrev pub EachNeeds : List Needed → Type 0
+EachNeeds claims = map (λ c. c.found) claims ≡ map (λ c. c.expected) claims

@@ -4,6 +4,7 @@ ghost use Rattle.pj_grammar.specs.RowsExpressions.{calls, conditions, conditions
 ghost use Rattle.pj_grammar.specs.RowsStatements.{assignments, assignments_refused, branches, branches_refused, evaluations, evaluations_refused, jumps, jumps_refused, loops, loops_refused, quoted, quoted_refused};
 ghost use Rattle.pj_grammar.specs.RowsItems.{constants_and_uses, constants_and_uses_refused, declarations, declarations_refused, methods, methods_refused, types, types_refused};
 ghost use Rattle.pj_grammar.specs.RowsPackages.{directives, directives_refused, headers, headers_refused, own_names, own_names_refused};
+ghost use Rattle.pj_grammar.specs.RowsNeeds.{needs_of_blocks, needs_of_operators, needs_of_parentheses, needs_of_places};
 ghost use Rattle.pj_grammar.specs.RowsPlaces.{places_of_arguments, places_of_assignments, places_of_parameters};
 
 /// Expressions: their trees, how deep they nest, and where they are refused.
@@ -59,4 +60,12 @@ pub fn places_rows()
     ensures places_of_arguments { places_of_arguments }
     ensures places_of_assignments { places_of_assignments }
     ensures places_of_parameters { places_of_parameters }
+{}
+
+/// How deep a text nests at least that begins with some words.
+pub fn needs_rows()
+    ensures needs_of_parentheses { needs_of_parentheses }
+    ensures needs_of_places { needs_of_places }
+    ensures needs_of_operators { needs_of_operators }
+    ensures needs_of_blocks { needs_of_blocks }
 {}
