@@ -22,6 +22,7 @@ use Rattle.pj_grammar.specs.declared.mode.Head.TheVariants as heads
 use Rattle.pj_grammar.specs.declared.mode.Mode.TheVariants as modes
 use Rattle.pj_grammar.specs.Expressions as grammar
 use Rattle.pj_grammar.specs.Expressions.{Callee, Reads, call, conditional, ended, field, group, has_fields, infix_, last, literal, more, prefix, read, tighter}
+use Rattle.pj_grammar.specs.Follows.{follows}
 use Rattle.pj_grammar.specs.Frames.{State, admits, at, give, is_value, node}
 use Rattle.pj_grammar.specs.Levels.{fits, is_prefix, left_of, level_of, right_of}
 use Rattle.pj_grammar.specs.Machine.{opens_types, run, step}
@@ -31,7 +32,7 @@ use Rattle.pj_grammar.specs.Operands.{close_call}
 use Rattle.pj_grammar.specs.Tokens.{Place, name, sign, spot, token}
 use Rattle.pj_grammar.proofs.Adding.{give-after, given_arguments, join, join-after, join-none, none-join}
 use Rattle.pj_grammar.proofs.Begin.{from-argument, starts}
-use Rattle.pj_grammar.proofs.Follow.{follows, follows-tighter, pending-else, pending-infix, pending-prefix}
+use Rattle.pj_grammar.proofs.Follow.{follows-tighter, pending-else, pending-infix, pending-prefix}
 use Rattle.pj_grammar.proofs.Levels.{Binary, admits-tighter, and, binary, comparison, fits-refl, fits-trans, or, product, splits, sum}
 use Rattle.pj_grammar.proofs.Reading.{Called, TakesName, module_name, reads-callee, runs-step, state}
 use Rattle.pj_grammar.proofs.Stepping.{fielded, fielded-module, fielded-node, fielded-value, follows-infix, placed, runs-over, step-call, step-call-end, step-colon, step-comma, step-dot, step-field, step-group, step-group-end, step-infix, step-literal, step-no-argument, step-prefix, step-question}

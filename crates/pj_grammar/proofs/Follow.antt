@@ -10,6 +10,7 @@ use Rattle.pj_grammar.specs.declared.frame.Frame.TheVariants as frames
 use Rattle.pj_grammar.specs.declared.frame.Purpose.TheVariants as purposes
 use Rattle.pj_grammar.specs.declared.mode.Head.{Head}
 use Rattle.pj_grammar.specs.declared.mode.Head.TheVariants as heads
+use Rattle.pj_grammar.specs.Follows.{follows, follows_next}
 use Rattle.pj_grammar.specs.Frames.{admits, is_value, node, settle}
 use Rattle.pj_grammar.specs.Levels.{fits, left_of}
 use Rattle.pj_grammar.specs.Makers.{conditional_of, infix_of, prefix_of}
@@ -17,19 +18,6 @@ use Rattle.pj_grammar.specs.Modules.{Modules}
 use Rattle.pj_grammar.specs.Operands.{Next, assignment, dot, finish, have, have_next, have_other, have_value, infix_, next, other, paren, question, type}
 use Rattle.pj_grammar.specs.Tokens.{Place}
 use Rattle.pj_grammar.proofs.Levels.{absurd-of, fits-conditional, fits-trans}
-
--- what may follow an expression of a level, so that the whole of it is an operand there
-abbrev pub follows_next : Level → Next → Bool
-follows_next l dot = fits levels.Postfix l
-follows_next l paren = false
-follows_next l (infix_ m s) = fits (left_of m) l
-follows_next l question = fits levels.Disjunction l
-follows_next l (assignment o) = false
-follows_next l type = false
-follows_next l other = true
-
-abbrev pub follows : Level → TokenKind → Bool
-follows l kind = follows_next l (next kind)
 
 pub follows-tighter : (l found : Level) (kind : TokenKind) → fits l found ≡ true → follows l kind ≡ true → follows found kind ≡ true
 follows-tighter l found kind p q = at-next (next kind) q

@@ -4,5 +4,6 @@ pub mod Computing
 pub mod Expressions
 pub mod Follow
 pub mod Levels
+pub mod Nesting
 pub mod Reading
 pub mod Stepping

@@ -1,5 +1,6 @@
 pub mod Closing
 pub mod Expressions
+pub mod Follows
 pub mod Frames
 pub mod Levels
 pub mod Machine

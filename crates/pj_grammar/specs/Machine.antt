@@ -297,8 +297,8 @@ start «package» = record { mode = modes.PackageStart; frames = [] }
 
 -- a text that was read whole, and how deep it nests
 abbrev pub read_frames : List Frame → Option (Parsed × ℕ)
-read_frames (frames.Items roots.Script is ∷ k) = Some (parsed.Script (record { items = is.trees }), is.nesting)
-read_frames (frames.Items (roots.Package x uses) is ∷ k) = Some (parsed.Package (record { name = x; uses = uses; items = is.trees }), is.nesting)
+read_frames (frames.Items roots.Script is ∷ []) = Some (parsed.Script (record { items = is.trees }), is.nesting)
+read_frames (frames.Items (roots.Package x uses) is ∷ []) = Some (parsed.Package (record { name = x; uses = uses; items = is.trees }), is.nesting)
 read_frames _ = None
 
 abbrev pub accepted_at : Mode → List Frame → Option (Parsed × ℕ)

@@ -1,8 +1,15 @@
 -- What holds of the grammar and its machine.
-use Rattle.std.specs.Prelude.{◌≡◌, ℕ, ◌≤◌, max, suc, List, ◌∷◌, ◌++◌, Option, Some, None, codes, take}
+use Rattle.std.specs.Prelude.{◌≡◌, ℕ, ◌≤◌, max, suc, true, List, ◌∷◌, ◌++◌, Option, Some, None, codes, take}
 use Rattle.pj_lex.specs.declared.token.Token.{Token}
 use Rattle.pj_grammar.specs.declared.mode.Parsed.{Parsed}
-use Rattle.pj_grammar.specs.Frames.{State}
+use Rattle.pj_grammar.specs.declared.level.Level.{Level}
+use Rattle.pj_grammar.specs.declared.node.Node.{Node}
+use Rattle.pj_grammar.specs.declared.frame.Frame.{Frame}
+use Rattle.pj_grammar.specs.declared.mode.Head.{Head}
+use Rattle.pj_grammar.specs.declared.mode.Mode.TheVariants as modes
+use Rattle.pj_grammar.specs.Expressions.{Reads}
+use Rattle.pj_grammar.specs.Follows.{follows}
+use Rattle.pj_grammar.specs.Frames.{State, admits, at, is_value, node}
 use Rattle.pj_grammar.specs.Machine.{accepted, run, start, step}
 use Rattle.pj_grammar.specs.Modules.{Modules}
 use Rattle.pj_grammar.specs.Need.{need}
@@ -40,6 +47,19 @@ IsDeepFault modules kind limit tokens i =
 -- where the machine stands behind tokens
 abbrev pub reached : Modules → Kind → List Token → Option State
 reached modules kind tokens = run modules tokens (Some (start kind))
+
+-- The machine reads these tokens as an operand of a level, wherever frames take one, before each token that may follow.
+pub record ReadAs (modules : Modules) (frames : List Frame) (level : Level) (tokens : List Token) (e : Node) : Type 0 where
+  pub head : Head
+  pub is : node head ≡ e
+  pub value : is_value head ≡ true
+  pub runs : (t : Token) (rest : List Token) → follows level t.what ≡ true
+      → run modules (tokens ++ t ∷ rest) (at modes.Want frames) ≡ run modules (t ∷ rest) (at (modes.Have head) frames)
+
+-- It reads so each expression of the grammar. This is the part of `Complete` that speaks of expressions.
+abbrev pub CompleteExpressions : Type 0
+CompleteExpressions = (modules : Modules) (level : Level) (tokens : List Token) (e : Node) → Reads (with_base modules) level tokens e
+    → (frames : List Frame) → admits frames level ≡ true → ReadAs (with_base modules) frames level tokens e
 
 -- The machine accepts every text of the grammar, with its tree.
 abbrev pub Complete : Type 0

@@ -2,6 +2,7 @@
 #![tactic(auto)]
 
 pub mod frame;
+pub mod grammar_laws;
 pub mod grammar_rows;
 pub mod level;
 pub mod mode;
