@@ -3,6 +3,7 @@ pub mod Begin
 pub mod Computing
 pub mod Expressions
 pub mod Follow
+pub mod Holes
 pub mod Levels
 pub mod Nesting
 pub mod Reading
