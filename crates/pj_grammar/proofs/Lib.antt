@@ -6,5 +6,6 @@ pub mod Follow
 pub mod Holes
 pub mod Levels
 pub mod Nesting
+pub mod Parameters
 pub mod Reading
 pub mod Stepping
