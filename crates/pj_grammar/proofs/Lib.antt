@@ -1,6 +1,7 @@
 pub mod Adding
 pub mod Begin
 pub mod Computing
+pub mod Evaluations
 pub mod Expressions
 pub mod Follow
 pub mod Holes
