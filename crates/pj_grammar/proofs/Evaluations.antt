@@ -122,7 +122,7 @@ pub short-runs : {modules : Modules} {ts us vs : List Token} {f : Path} {params 
     → Callee modules ts f → p.blank ≡ false → Parameters modules us params → Reads modules levels.Conditional vs e
     → (k : List Frame) → takes_definition k ≡ true → (t : Token) (r : List Token) → Stops t.what
     → run modules ((ts ++ sign p signs.LeftParen ∷ (us ++ sign q signs.Assign ∷ vs)) ++ t ∷ r) (at modes.Want (frames.Hole purposes.Value ∷ k))
-      ≡ run modules r (after_end (closed_method (short_method f params e) k) t.what)
+    ≡ run modules r (after_end (closed_method (short_method f params e) k) t.what)
 short-runs {modules} {ts} {us} {vs} {f} {params} {e} base p q d blank ds body k takes t r st =
     let c = reads-callee base d (state modes.Want (frames.Hole purposes.Value ∷ k)) (frames.Hole purposes.Value ∷ k) (want-names modules (frames.Hole purposes.Value ∷ k)) refl in
     ap (λ w. run modules w (at modes.Want (frames.Hole purposes.Value ∷ k))) (append_assoc ts (sign p signs.LeftParen ∷ (us ++ sign q signs.Assign ∷ vs)) (t ∷ r))
@@ -131,6 +131,7 @@ short-runs {modules} {ts} {us} {vs} {f} {params} {e} base p q d blank ds body k 
     ∙ ap (λ w. run modules w (at modes.Arguments (frames.Call f (given.Paths []) ∷ frames.Hole purposes.Value ∷ k))) (append_assoc us (sign q signs.Assign ∷ vs) (t ∷ r))
     ∙ head-params ds f [] [] k refl takes q (vs ++ t ∷ r)
     ∙ hole-runs base body (purposes.Short f params) k refl t r st
+
 step-long : (modules : Modules) (k : List Frame) (h : Head) (f : Path) (p : Place) → head_path h ≡ Some f → p.blank ≡ false
     → step modules (state (modes.Have h) (frames.FunctionName ∷ k)) (sign p signs.LeftParen) ≡ at modes.Params (frames.Signature forms.Long f [] ∷ k)
 unfolding step
@@ -140,9 +141,43 @@ step-long modules k h f p path blank = rw blank (rw path refl)
 pub long-runs : {modules : Modules} {ts us : List Token} {f : Path} {params : List Param} → is_module modules (codes "Base") ≡ true → (q : Place)
     → Callee modules ts f → q.blank ≡ false → Parameters modules us params → (k : List Frame) (r : List Token)
     → run modules (ts ++ sign q signs.LeftParen ∷ (us ++ r)) (at modes.PathStart (frames.FunctionName ∷ k))
-      ≡ run modules r (at modes.Line (frames.Block (openers.Function f params) no_lines ∷ k))
+    ≡ run modules r (at modes.Line (frames.Block (openers.Function f params) no_lines ∷ k))
 long-runs {modules} {ts} {us} {f} base q d blank ds k r =
     let c = reads-callee base d (state modes.PathStart (frames.FunctionName ∷ k)) (frames.FunctionName ∷ k) (path-names modules (frames.FunctionName ∷ k)) refl in
     c.runs (sign q signs.LeftParen ∷ (us ++ r))
     ∙ runs-step modules (sign q signs.LeftParen) (us ++ r) _ _ (step-long modules k c.head f q c.path blank)
     ∙ params-run ds forms.Long f [] k r
+
+payload-named : (modules : Modules) (k : List Frame) (p : Place) (x : List ℕ) (rest : List Token) (u : Token) (r : List Token) (b : Bool) → is_module modules x ≡ b
+    → begins_with_module modules (name p x ∷ rest) ≡ false
+    → run modules ((name p x ∷ rest) ++ u ∷ r) (at modes.Payload (frames.Payload None false ∷ k))
+    ≡ run modules ((name p x ∷ rest) ++ u ∷ r) (at modes.Want (frames.Hole purposes.Value ∷ frames.Payload None false ∷ k))
+payload-named modules k p x rest u r false is fine =
+    from-payload-safe modules None false k (name p x ∷ rest) (u ∷ r) (record { first = name p x; rest = rest; are = refl; start = a_name x }) (λ a b. is)
+payload-named modules k p x [] u r true is fine = absurd-of (sym fine ∙ is)
+payload-named modules k p x (n ∷ rest) u r true is fine =
+    runs-step modules (name p x) (n ∷ (rest ++ u ∷ r)) _ _ (step-eval-name modules k p x is)
+    ∙ runs-step modules n (rest ++ u ∷ r) _ _ (step-reads-name modules (spot p x) (frames.Payload None false ∷ k) (place n) n.what (reads-it (place n) n.what (both (is_module modules x) _ fine is)))
+    ∙ sym (runs-step modules n (rest ++ u ∷ r) (state (modes.Have (heads.Name (spot p x))) (frames.Hole purposes.Value ∷ frames.Payload None false ∷ k)) _ refl)
+    ∙ sym (runs-step modules (name p x) (n ∷ (rest ++ u ∷ r)) _ _ (step-want-name modules (frames.Hole purposes.Value ∷ frames.Payload None false ∷ k) p x))
+
+payload-first : (modules : Modules) (k : List Frame) (p : Place) (kind : TokenKind) → Start kind → (rest : List Token) (u : Token) (r : List Token)
+    → begins_with_module modules (token p kind ∷ rest) ≡ false
+    → run modules ((token p kind ∷ rest) ++ u ∷ r) (at modes.Payload (frames.Payload None false ∷ k))
+    ≡ run modules ((token p kind ∷ rest) ++ u ∷ r) (at modes.Want (frames.Hole purposes.Value ∷ frames.Payload None false ∷ k))
+payload-first modules k p _ (a_name x) rest u r fine = payload-named modules k p x rest u r (is_module modules x) refl fine
+payload-first modules k p _ (integer n) rest u r fine = from-payload-safe modules None false k (_ ∷ rest) (u ∷ r) (record { first = token p (kinds.Integer n); rest = rest; are = refl; start = integer n }) (λ a b. refl)
+payload-first modules k p _ (text s) rest u r fine = from-payload-safe modules None false k (_ ∷ rest) (u ∷ r) (record { first = token p (kinds.Str s); rest = rest; are = refl; start = text s }) (λ a b. refl)
+payload-first modules k p _ yes_ rest u r fine = from-payload-safe modules None false k (_ ∷ rest) (u ∷ r) (record { first = word p words.True; rest = rest; are = refl; start = yes_ }) (λ a b. refl)
+payload-first modules k p _ no_ rest u r fine = from-payload-safe modules None false k (_ ∷ rest) (u ∷ r) (record { first = word p words.False; rest = rest; are = refl; start = no_ }) (λ a b. refl)
+payload-first modules k p _ nothing rest u r fine = from-payload-safe modules None false k (_ ∷ rest) (u ∷ r) (record { first = word p words.Nothing; rest = rest; are = refl; start = nothing }) (λ a b. refl)
+payload-first modules k p _ minus rest u r fine = from-payload-safe modules None false k (_ ∷ rest) (u ∷ r) (record { first = sign p signs.Minus; rest = rest; are = refl; start = minus }) (λ a b. refl)
+payload-first modules k p _ not_ rest u r fine = from-payload-safe modules None false k (_ ∷ rest) (u ∷ r) (record { first = sign p signs.Not; rest = rest; are = refl; start = not_ }) (λ a b. refl)
+payload-first modules k p _ parenthesis rest u r fine = from-payload-safe modules None false k (_ ∷ rest) (u ∷ r) (record { first = sign p signs.LeftParen; rest = rest; are = refl; start = parenthesis }) (λ a b. refl)
+
+-- a payload without a module that begins with an operand
+pub from-payload : (modules : Modules) (k : List Frame) (ts : List Token) (u : Token) (r : List Token) → Starts ts → begins_with_module modules ts ≡ false
+    → run modules (ts ++ u ∷ r) (at modes.Payload (frames.Payload None false ∷ k))
+    ≡ run modules (ts ++ u ∷ r) (at modes.Want (frames.Hole purposes.Value ∷ frames.Payload None false ∷ k))
+from-payload modules k ts u r s fine =
+    rw s.are (payload-first modules k (place s.first) s.first.what s.start s.rest u r (ap (begins_with_module modules) (sym s.are) ∙ fine))

@@ -9,4 +9,5 @@ pub mod Levels
 pub mod Nesting
 pub mod Parameters
 pub mod Reading
+pub mod Statements
 pub mod Stepping
