@@ -1,5 +1,6 @@
 pub mod Adding
 pub mod Begin
+pub mod Blocks
 pub mod Computing
 pub mod Evaluations
 pub mod Expressions
