@@ -137,7 +137,7 @@ pub record Starts (ts : List Token) : Type 0 where
   pub are : ts ≡ first ∷ rest
   pub start : Start first.what
 
-starts-more : {ts : List Token} (us : List Token) → Starts ts → Starts (ts ++ us)
+pub starts-more : {ts : List Token} (us : List Token) → Starts ts → Starts (ts ++ us)
 starts-more us s = record { first = s.first; rest = s.rest ++ us; are = ap (λ w. w ++ us) s.are; start = s.start }
 
 starts-named : {modules : Modules} {ts : List Token} {f : Path} → Named modules ts f → Starts ts

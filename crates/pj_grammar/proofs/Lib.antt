@@ -9,6 +9,7 @@ pub mod Holes
 pub mod Levels
 pub mod Nesting
 pub mod Parameters
+pub mod Payloads
 pub mod Reading
 pub mod Statements
 pub mod Stepping
