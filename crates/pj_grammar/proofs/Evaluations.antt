@@ -103,7 +103,7 @@ reads-it p kinds.AtEval h = h
 reads-it p kinds.Separator h = refl
 reads-it p kinds.Eof h = refl
 
-step-eval-name : (modules : Modules) (k : List Frame) (p : Place) (x : List ℕ) → is_module modules x ≡ true
+pub step-eval-name : (modules : Modules) (k : List Frame) (p : Place) (x : List ℕ) → is_module modules x ≡ true
     → step modules (state modes.Payload (frames.Payload None false ∷ k)) (name p x) ≡ at (modes.EvalName (spot p x)) (frames.Payload None false ∷ k)
 unfolding step
 step-eval-name modules k p x is = rw is refl

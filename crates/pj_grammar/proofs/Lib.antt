@@ -13,3 +13,4 @@ pub mod Payloads
 pub mod Reading
 pub mod Statements
 pub mod Stepping
+pub mod Written
