@@ -1,5 +1,5 @@
 -- How arguments add up.
-use Rattle.std.proofs.Common.{◌≡◌, arith, ℕ, max, List, [], ◌∷◌, ◌++◌, Option, Some, None, refl, sym, ap, ◌∙◌}
+use Rattle.std.proofs.Common.{◌≡◌, arith, ℕ, max, List, [], ◌∷◌, ◌++◌, refl, sym, ap, ◌∙◌}
 use Rattle.std.proofs.lemmas.List.{append_assoc, append-nil}
 use Rattle.std.proofs.Math.Nat.{max-zero, zero-max}
 use Rattle.pj_syntax.specs.declared.expression.Argument.{Argument}

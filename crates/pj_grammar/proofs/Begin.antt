@@ -1,5 +1,5 @@
 -- With which tokens an expression begins. They do the same wherever an expression may begin.
-use Rattle.std.proofs.Common.{◌≡◌, ℕ, ℤ, Bool, true, false, List, [], ◌∷◌, ◌++◌, Option, Some, None, refl, sym, subst, ap, ◌∙◌}
+use Rattle.std.proofs.Common.{◌≡◌, ℕ, ℤ, true, List, ◌∷◌, ◌++◌, Some, refl, ap}
 use Rattle.pj_words.specs.declared.word.Word.TheVariants as words
 use Rattle.pj_lex.specs.declared.sign.Sign.{Sign}
 use Rattle.pj_lex.specs.declared.sign.Sign.TheVariants as signs
@@ -15,7 +15,7 @@ use Rattle.pj_grammar.specs.declared.frame.Purpose.TheVariants as purposes
 use Rattle.pj_grammar.specs.declared.mode.Mode.TheVariants as modes
 use Rattle.pj_grammar.specs.declared.node.Node.{Node}
 use Rattle.pj_grammar.specs.Expressions.{Callee, Named, Reads, bare, call, conditional, field, group, infix_, literal, named, of_module, operator, prefix, read, tighter}
-use Rattle.pj_grammar.specs.Frames.{State, at}
+use Rattle.pj_grammar.specs.Frames.{at}
 use Rattle.pj_grammar.specs.Levels.{is_prefix}
 use Rattle.pj_grammar.specs.Machine.{argument, line, operand, run, step}
 use Rattle.pj_grammar.specs.Makers.{literal_of}

@@ -1,15 +1,13 @@
 -- The machine reads statements and blocks.
-use Rattle.std.proofs.Common.{◌≡◌, arith, ℕ, max, Bool, true, false, List, [], ◌∷◌, ◌++◌, Option, Some, None, codes, refl, sym, ap, ◌∙◌}
+use Rattle.std.proofs.Common.{◌≡◌, arith, ℕ, max, true, List, [], ◌∷◌, ◌++◌, codes, refl, sym, ap, ◌∙◌}
 use Rattle.std.proofs.lemmas.List.{append_assoc, append-nil}
 use Rattle.std.proofs.Math.Nat.{max-zero, zero-max}
-use Rattle.std.specs.Str.{bytes_eq}
 use Rattle.pj_words.specs.declared.word.Word.TheVariants as words
 use Rattle.pj_lex.specs.declared.sign.Sign.TheVariants as signs
 use Rattle.pj_lex.specs.declared.token.TokenKind.{TokenKind}
 use Rattle.pj_lex.specs.declared.token.TokenKind.TheVariants as kinds
 use Rattle.pj_lex.specs.declared.token.Token.{Token}
 use Rattle.pj_syntax.specs.declared.expression.Spot.{Spot}
-use Rattle.pj_syntax.specs.declared.expression.Path.TheVariants as paths
 use Rattle.pj_syntax.specs.declared.statement.Stmt.{Stmt}
 use Rattle.pj_grammar.specs.declared.level.Level.TheVariants as levels
 use Rattle.pj_grammar.specs.declared.node.Node.{Node}
@@ -21,12 +19,12 @@ use Rattle.pj_grammar.specs.declared.frame.Opener.{Opener}
 use Rattle.pj_grammar.specs.declared.frame.Opener.TheVariants as openers
 use Rattle.pj_grammar.specs.declared.frame.Purpose.TheVariants as purposes
 use Rattle.pj_grammar.specs.declared.mode.Mode.TheVariants as modes
-use Rattle.pj_grammar.specs.Closing.{after_end, closed_evaluated, closed_line, closed_method, ending}
-use Rattle.pj_grammar.specs.Frames.{State, at, takes_definition, takes_lines}
+use Rattle.pj_grammar.specs.Closing.{closed_line, ending}
+use Rattle.pj_grammar.specs.Frames.{at, takes_lines}
 use Rattle.pj_grammar.specs.Machine.{run, step}
-use Rattle.pj_grammar.specs.Makers.{Evaluated, Method, eval_of, for_of, if_of, line_after, line_before, method_evaluated, method_of, no_lines, one_line, while_of}
+use Rattle.pj_grammar.specs.Makers.{for_of, if_of, line_after, line_before, no_lines, one_line, while_of}
 use Rattle.pj_grammar.specs.Modules.{Modules, is_module}
-use Rattle.pj_grammar.specs.Statements.{Block, Otherwise, begins_bounds, else, else_if, end, last_line, none, skip, then_lines}
+use Rattle.pj_grammar.specs.Statements.{begins_bounds}
 use Rattle.pj_grammar.specs.Tokens.{Place, name, place, separator, sign, spot, token, word}
 use Rattle.pj_grammar.specs.Expressions.{Reads}
 use Rattle.pj_grammar.proofs.Holes.{LineEnds, a_colon, a_separator, a_separator_here, an_else_here, an_else_if_here, an_end_here, hole-runs}

@@ -1,5 +1,5 @@
 -- How what `@eval` evaluates begins and ends, and how definitions are read.
-use Rattle.std.proofs.Common.{◌≡◌, ℕ, Bool, true, false, not, ◌&&◌, ◌||◌, List, [], ◌∷◌, ◌++◌, Option, Some, None, codes, refl, sym, ap, ◌∙◌, if◌then◌else◌}
+use Rattle.std.proofs.Common.{◌≡◌, ℕ, Bool, true, false, not, ◌&&◌, ◌||◌, List, [], ◌∷◌, ◌++◌, Option, Some, None, codes, refl, sym, ap, ◌∙◌}
 use Rattle.std.proofs.lemmas.List.{append_assoc}
 use Rattle.pj_words.specs.declared.word.Word.TheVariants as words
 use Rattle.pj_lex.specs.declared.sign.Sign.TheVariants as signs
@@ -11,7 +11,6 @@ use Rattle.pj_syntax.specs.declared.expression.Path.{Path}
 use Rattle.pj_syntax.specs.declared.statement.Param.{Param}
 use Rattle.pj_grammar.specs.declared.level.Level.TheVariants as levels
 use Rattle.pj_grammar.specs.declared.node.Node.{Node}
-use Rattle.pj_grammar.specs.declared.node.Lines.{Lines}
 use Rattle.pj_grammar.specs.declared.frame.Form.TheVariants as forms
 use Rattle.pj_grammar.specs.declared.frame.Frame.{Frame}
 use Rattle.pj_grammar.specs.declared.frame.Frame.TheVariants as frames
@@ -21,16 +20,15 @@ use Rattle.pj_grammar.specs.declared.frame.Purpose.TheVariants as purposes
 use Rattle.pj_grammar.specs.declared.mode.Head.{Head}
 use Rattle.pj_grammar.specs.declared.mode.Head.TheVariants as heads
 use Rattle.pj_grammar.specs.declared.mode.Mode.TheVariants as modes
-use Rattle.pj_grammar.specs.Closing.{after_end, closed_evaluated, closed_line, closed_method}
+use Rattle.pj_grammar.specs.Closing.{after_end, closed_evaluated, closed_method}
 use Rattle.pj_grammar.specs.Expressions.{Callee, Reads}
-use Rattle.pj_grammar.specs.Frames.{State, admits, at, head_path, takes_definition, takes_lines}
-use Rattle.pj_grammar.specs.Machine.{eval_name_then, operand, payload, reads_name, run, step}
-use Rattle.pj_grammar.specs.Makers.{Evaluated, eval_of, method_of, no_lines, short_method}
+use Rattle.pj_grammar.specs.Frames.{at, head_path, takes_definition, takes_lines}
+use Rattle.pj_grammar.specs.Machine.{operand, payload, reads_name, run, step}
+use Rattle.pj_grammar.specs.Makers.{Evaluated, eval_of, no_lines, short_method}
 use Rattle.pj_grammar.specs.Modules.{Modules, is_module}
-use Rattle.pj_grammar.specs.Operands.{have}
-use Rattle.pj_grammar.specs.Statements.{Parameters, begins_with_module, is_dot, is_paren, names_module, opens_directly}
+use Rattle.pj_grammar.specs.Statements.{Parameters, begins_with_module, is_dot, names_module, opens_directly}
 use Rattle.pj_grammar.specs.Tokens.{Place, name, place, sign, spot, token, word}
-use Rattle.pj_grammar.proofs.Begin.{Start, Starts, a_name, integer, minus, no_, not_, nothing, parenthesis, starts-callee, text, yes_}
+use Rattle.pj_grammar.proofs.Begin.{Start, Starts, a_name, integer, minus, no_, not_, nothing, parenthesis, text, yes_}
 use Rattle.pj_grammar.proofs.Holes.{LineEnds, Stops, a_close, hole-runs, line-ends, line-stops}
 use Rattle.pj_grammar.proofs.Levels.{absurd-of}
 use Rattle.pj_grammar.proofs.Parameters.{head-params, params-run}

@@ -1,10 +1,9 @@
 -- The machine reads each expression of the grammar, and each list of arguments.
-use Rattle.std.proofs.Common.{◌≡◌, ℕ, Bool, true, false, List, [], ◌∷◌, ◌++◌, Option, Some, None, codes, refl, sym, ap, ◌∙◌}
+use Rattle.std.proofs.Common.{◌≡◌, ℕ, true, false, List, [], ◌∷◌, ◌++◌, Option, Some, codes, refl, sym, ap, ◌∙◌}
 use Rattle.std.proofs.lemmas.List.{append_assoc}
 use Rattle.pj_lex.specs.declared.sign.Sign.{Sign}
 use Rattle.pj_lex.specs.declared.sign.Sign.TheVariants as signs
 use Rattle.pj_lex.specs.declared.token.TokenKind.{TokenKind}
-use Rattle.pj_lex.specs.declared.token.TokenKind.TheVariants as kinds
 use Rattle.pj_lex.specs.declared.token.Token.{Token}
 use Rattle.pj_syntax.specs.declared.expression.Path.{Path}
 use Rattle.pj_syntax.specs.declared.expression.Expr.{Expr}
@@ -33,7 +32,7 @@ use Rattle.pj_grammar.specs.Tokens.{Place, name, sign, spot, token}
 use Rattle.pj_grammar.proofs.Adding.{give-after, given_arguments, join, join-after, join-none, none-join}
 use Rattle.pj_grammar.proofs.Begin.{from-argument, starts}
 use Rattle.pj_grammar.proofs.Follow.{follows-tighter, pending-else, pending-infix, pending-prefix}
-use Rattle.pj_grammar.proofs.Levels.{Binary, admits-tighter, and, binary, comparison, fits-refl, fits-trans, or, product, splits, sum}
+use Rattle.pj_grammar.proofs.Levels.{Binary, admits-tighter, and, binary, comparison, fits-refl, or, product, splits, sum}
 use Rattle.pj_grammar.proofs.Reading.{Called, TakesName, module_name, reads-callee, runs-step, state}
 use Rattle.pj_grammar.proofs.Stepping.{fielded, fielded-module, fielded-node, fielded-value, follows-infix, placed, runs-over, step-call, step-call-end, step-colon, step-comma, step-dot, step-field, step-group, step-group-end, step-infix, step-literal, step-no-argument, step-prefix, step-question}
 

@@ -1,5 +1,5 @@
 -- How the machine ends the expressions of statements.
-use Rattle.std.proofs.Common.{◌≡◌, ℕ, Bool, true, false, List, [], ◌∷◌, ◌++◌, Option, Some, None, codes, refl, sym, ap, ◌∙◌}
+use Rattle.std.proofs.Common.{◌≡◌, ℕ, true, false, List, [], ◌∷◌, ◌++◌, codes, refl, ap, ◌∙◌}
 use Rattle.pj_words.specs.declared.word.Word.TheVariants as words
 use Rattle.pj_lex.specs.declared.sign.Sign.TheVariants as signs
 use Rattle.pj_lex.specs.declared.token.TokenKind.{TokenKind}
@@ -18,13 +18,13 @@ use Rattle.pj_grammar.specs.declared.mode.Mode.TheVariants as modes
 use Rattle.pj_grammar.specs.Closing.{after_end, closed_line, closed_value}
 use Rattle.pj_grammar.specs.Expressions.{Reads}
 use Rattle.pj_grammar.specs.Follows.{follows}
-use Rattle.pj_grammar.specs.Frames.{State, admits, at, is_value, node, settle, takes_lines}
-use Rattle.pj_grammar.specs.Machine.{run, step}
+use Rattle.pj_grammar.specs.Frames.{admits, at, is_value, node, settle, takes_lines}
+use Rattle.pj_grammar.specs.Machine.{ends_line, run, step}
 use Rattle.pj_grammar.specs.Makers.{value_of}
 use Rattle.pj_grammar.specs.Modules.{Modules, is_module}
 use Rattle.pj_grammar.specs.Operands.{after_purpose, have_other, is_type_word}
 use Rattle.pj_grammar.specs.Tokens.{Place, place, token}
-use Rattle.pj_grammar.proofs.Expressions.{Read, reads}
+use Rattle.pj_grammar.proofs.Expressions.{reads}
 use Rattle.pj_grammar.proofs.Levels.{absurd-of}
 use Rattle.pj_grammar.proofs.Reading.{runs-step, state}
 
@@ -184,3 +184,43 @@ value-line e (frames.Types g ts ∷ k) takes = absurd-of takes
 value-line e (frames.Hole purpose ∷ k) takes = absurd-of takes
 value-line e (frames.Branch c ss ∷ k) takes = absurd-of takes
 value-line e (frames.Payload m quoted ∷ k) takes = absurd-of takes
+
+pub line-ends-here : (kind : TokenKind) → ends_line kind ≡ true → LineEnds kind
+line-ends-here kinds.Separator h = a_separator_here
+line-ends-here kinds.Eof h = an_eof_here
+line-ends-here kinds.AtEval h = absurd-of h
+line-ends-here (kinds.Name x) h = absurd-of h
+line-ends-here (kinds.Integer n) h = absurd-of h
+line-ends-here (kinds.Str s) h = absurd-of h
+line-ends-here (kinds.Sign s) h = absurd-of h
+line-ends-here (kinds.Reserved words.Module) h = absurd-of h
+line-ends-here (kinds.Reserved words.End) h = an_end_here
+line-ends-here (kinds.Reserved words.Using) h = absurd-of h
+line-ends-here (kinds.Reserved words.Struct) h = absurd-of h
+line-ends-here (kinds.Reserved words.Function) h = absurd-of h
+line-ends-here (kinds.Reserved words.If) h = absurd-of h
+line-ends-here (kinds.Reserved words.ElseIf) h = an_else_if_here
+line-ends-here (kinds.Reserved words.Else) h = an_else_here
+line-ends-here (kinds.Reserved words.While) h = absurd-of h
+line-ends-here (kinds.Reserved words.For) h = absurd-of h
+line-ends-here (kinds.Reserved words.Break) h = absurd-of h
+line-ends-here (kinds.Reserved words.Continue) h = absurd-of h
+line-ends-here (kinds.Reserved words.Return) h = absurd-of h
+line-ends-here (kinds.Reserved words.Global) h = absurd-of h
+line-ends-here (kinds.Reserved words.Const) h = absurd-of h
+line-ends-here (kinds.Reserved words.True) h = absurd-of h
+line-ends-here (kinds.Reserved words.False) h = absurd-of h
+line-ends-here (kinds.Reserved words.Nothing) h = absurd-of h
+line-ends-here (kinds.Reserved words.Begin) h = absurd-of h
+line-ends-here (kinds.Reserved words.Let) h = absurd-of h
+line-ends-here (kinds.Reserved words.Do) h = absurd-of h
+line-ends-here (kinds.Reserved words.Try) h = absurd-of h
+line-ends-here (kinds.Reserved words.Catch) h = absurd-of h
+line-ends-here (kinds.Reserved words.Finally) h = absurd-of h
+line-ends-here (kinds.Reserved words.Quote) h = absurd-of h
+line-ends-here (kinds.Reserved words.Macro) h = absurd-of h
+line-ends-here (kinds.Reserved words.Import) h = absurd-of h
+line-ends-here (kinds.Reserved words.Export) h = absurd-of h
+line-ends-here (kinds.Reserved words.BareModule) h = absurd-of h
+line-ends-here (kinds.Reserved words.Local) h = absurd-of h
+line-ends-here (kinds.Reserved words.Where) h = absurd-of h

@@ -1,5 +1,5 @@
 -- How levels stand to one another, and how operators that are begun end.
-use Rattle.std.proofs.Common.{◌≡◌, Bool, true, false, List, [], ◌∷◌, Option, Some, refl, sym, subst, ◌∙◌}
+use Rattle.std.proofs.Common.{◌≡◌, true, false, List, [], ◌∷◌, Some, refl, sym, subst, ◌∙◌}
 use Rattle.std.proofs.lemmas.Bool.{le-leb, leb-true}
 use Rattle.std.proofs.Math.Dec.{leb-zero}
 use Rattle.std.proofs.Math.Nat.{le_refl, le_trans}
@@ -10,7 +10,7 @@ use Rattle.pj_grammar.specs.declared.level.Level.TheVariants as levels
 use Rattle.pj_grammar.specs.declared.frame.Frame.{Frame}
 use Rattle.pj_grammar.specs.declared.frame.Frame.TheVariants as frames
 use Rattle.pj_grammar.specs.declared.mode.Head.{Head}
-use Rattle.pj_grammar.specs.Frames.{Settled, admits, frame_level, settle, wants}
+use Rattle.pj_grammar.specs.Frames.{admits, settle, wants}
 use Rattle.pj_grammar.specs.Levels.{fits, left_of, level_of, rank, right_of}
 
 pub fits-refl : (l : Level) → fits l l ≡ true

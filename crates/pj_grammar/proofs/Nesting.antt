@@ -1,5 +1,5 @@
 -- What a state needs where a text was read.
-use Rattle.std.proofs.Common.{◌≡◌, arith, ℕ, max, ◌+◌, List, [], ◌∷◌, Option, Some, None, refl, sym, ap, ◌∙◌}
+use Rattle.std.proofs.Common.{◌≡◌, arith, ℕ, max, ◌+◌, List, [], ◌∷◌, Some, ap}
 use Rattle.pj_grammar.specs.declared.frame.Frame.{Frame}
 use Rattle.pj_grammar.specs.declared.frame.Frame.TheVariants as frames
 use Rattle.pj_grammar.specs.declared.frame.Root.TheVariants as roots

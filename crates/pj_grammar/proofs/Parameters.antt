@@ -3,7 +3,6 @@ use Rattle.std.proofs.Common.{◌≡◌, ℕ, Bool, true, false, List, [], ◌�
 use Rattle.std.proofs.lemmas.List.{append_assoc, append-nil}
 use Rattle.pj_lex.specs.declared.sign.Sign.TheVariants as signs
 use Rattle.pj_lex.specs.declared.token.TokenKind.{TokenKind}
-use Rattle.pj_lex.specs.declared.token.TokenKind.TheVariants as kinds
 use Rattle.pj_lex.specs.declared.token.Token.{Token}
 use Rattle.pj_syntax.specs.declared.expression.Spot.{Spot}
 use Rattle.pj_syntax.specs.declared.expression.Path.{Path}
@@ -23,7 +22,7 @@ use Rattle.pj_grammar.specs.Frames.{State, at, head_path, params_of, takes_defin
 use Rattle.pj_grammar.specs.Machine.{run, step}
 use Rattle.pj_grammar.specs.Makers.{lacks, paths_given}
 use Rattle.pj_grammar.specs.Modules.{Modules}
-use Rattle.pj_grammar.specs.Operands.{Next, add_param, after_param, close_call, close_paths, end_params, have_next, next, other}
+use Rattle.pj_grammar.specs.Operands.{add_param, after_param, close_call, close_paths, end_params, have_next, next, other}
 use Rattle.pj_grammar.specs.Statements.{Parameter, Parameters, also, last_one, no_more, typed, untyped, with_name, without}
 use Rattle.pj_grammar.specs.Tokens.{Place, name, place, sign, spot, token}
 use Rattle.pj_grammar.proofs.Reading.{TakesName, reads-named, runs-step, state}

@@ -1,17 +1,14 @@
 -- The machine reads what `@eval` evaluates.
-use Rattle.std.proofs.Common.{◌≡◌, ℕ, Bool, true, false, not, ◌&&◌, List, [], ◌∷◌, ◌++◌, Option, Some, None, codes, refl, sym, ap, ◌∙◌}
+use Rattle.std.proofs.Common.{◌≡◌, ℕ, Bool, true, false, List, [], ◌∷◌, ◌++◌, Option, Some, None, codes, refl, sym, ap, ◌∙◌}
 use Rattle.std.proofs.lemmas.List.{append_assoc}
 use Rattle.pj_words.specs.declared.word.Word.TheVariants as words
 use Rattle.pj_lex.specs.declared.sign.Sign.TheVariants as signs
-use Rattle.pj_lex.specs.declared.token.TokenKind.{TokenKind}
-use Rattle.pj_lex.specs.declared.token.TokenKind.TheVariants as kinds
 use Rattle.pj_lex.specs.declared.token.Token.{Token}
 use Rattle.pj_syntax.specs.declared.expression.Spot.{Spot}
 use Rattle.pj_syntax.specs.declared.expression.Path.{Path}
 use Rattle.pj_syntax.specs.declared.statement.Param.{Param}
 use Rattle.pj_grammar.specs.declared.level.Level.TheVariants as levels
 use Rattle.pj_grammar.specs.declared.node.Node.{Node}
-use Rattle.pj_grammar.specs.declared.node.Line.{Line}
 use Rattle.pj_grammar.specs.declared.node.Lines.{Lines}
 use Rattle.pj_grammar.specs.declared.frame.Frame.{Frame}
 use Rattle.pj_grammar.specs.declared.frame.Frame.TheVariants as frames
@@ -20,14 +17,14 @@ use Rattle.pj_grammar.specs.declared.frame.Purpose.TheVariants as purposes
 use Rattle.pj_grammar.specs.declared.frame.Target.TheVariants as targets
 use Rattle.pj_grammar.specs.declared.mode.Head.TheVariants as heads
 use Rattle.pj_grammar.specs.declared.mode.Mode.TheVariants as modes
-use Rattle.pj_grammar.specs.Closing.{closed_evaluated, closed_line, closed_method}
+use Rattle.pj_grammar.specs.Closing.{closed_evaluated, closed_method}
 use Rattle.pj_grammar.specs.Expressions.{Callee, Reads}
-use Rattle.pj_grammar.specs.Frames.{State, at, takes_lines}
+use Rattle.pj_grammar.specs.Frames.{at, takes_lines}
 use Rattle.pj_grammar.specs.Machine.{run, step}
 use Rattle.pj_grammar.specs.Makers.{Evaluated, method_evaluated, method_of, no_lines, set_evaluated, short_method, value_evaluated}
 use Rattle.pj_grammar.specs.Modules.{Modules, is_module}
 use Rattle.pj_grammar.specs.Statements.{Parameters, begins_with_module}
-use Rattle.pj_grammar.specs.Tokens.{Place, name, sign, spot, token, word}
+use Rattle.pj_grammar.specs.Tokens.{Place, name, sign, spot, word}
 use Rattle.pj_grammar.proofs.Begin.{Starts, a_name, starts, starts-callee, starts-more}
 use Rattle.pj_grammar.proofs.Blocks.{BlockRuns, by_end, none-joined}
 use Rattle.pj_grammar.proofs.Evaluations.{EvalEnds, eval-stops, evaluated-ends, from-payload, from-payload-safe, long-runs, short-runs}

@@ -1,22 +1,13 @@
 -- The machine reads each expression of the grammar.
-use Rattle.std.proofs.Common.{◌≡◌, ℕ, Bool, true, false, not, List, [], ◌∷◌, ◌++◌, Option, Some, None, codes, refl, sym, subst, ap, ◌∙◌, if◌then◌else◌}
-use Rattle.std.proofs.lemmas.List.{append_assoc}
+use Rattle.std.proofs.Common.{◌≡◌, ℕ, Bool, true, false, not, List, ◌∷◌, ◌++◌, Option, Some, codes, refl, ap, ◌∙◌}
 use Rattle.pj_lex.specs.declared.sign.Sign.{Sign}
 use Rattle.pj_lex.specs.declared.sign.Sign.TheVariants as signs
-use Rattle.pj_lex.specs.declared.token.TokenKind.{TokenKind}
-use Rattle.pj_lex.specs.declared.token.TokenKind.TheVariants as kinds
 use Rattle.pj_lex.specs.declared.token.Token.{Token}
 use Rattle.pj_lex.specs.Signs.{is_operator}
 use Rattle.pj_syntax.specs.declared.expression.Spot.{Spot}
 use Rattle.pj_syntax.specs.declared.expression.Path.{Path}
-use Rattle.pj_syntax.specs.declared.expression.Path.TheVariants as paths
-use Rattle.pj_grammar.specs.declared.level.Level.{Level}
 use Rattle.pj_grammar.specs.declared.level.Level.TheVariants as levels
-use Rattle.pj_grammar.specs.declared.node.Node.{Node}
-use Rattle.pj_grammar.specs.declared.node.Arguments.{Arguments}
 use Rattle.pj_grammar.specs.declared.frame.Frame.{Frame}
-use Rattle.pj_grammar.specs.declared.frame.Frame.TheVariants as frames
-use Rattle.pj_grammar.specs.declared.frame.Given.TheVariants as given
 use Rattle.pj_grammar.specs.declared.mode.Head.{Head}
 use Rattle.pj_grammar.specs.declared.mode.Head.TheVariants as heads
 use Rattle.pj_grammar.specs.declared.mode.Mode.{Mode}

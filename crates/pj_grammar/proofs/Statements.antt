@@ -1,5 +1,5 @@
 -- The machine reads statements that hold no others.
-use Rattle.std.proofs.Common.{◌≡◌, ℕ, Bool, true, false, List, [], ◌∷◌, ◌++◌, Option, Some, None, codes, refl, sym, ap, ◌∙◌}
+use Rattle.std.proofs.Common.{◌≡◌, ℕ, true, List, [], ◌∷◌, ◌++◌, Option, Some, codes, refl, ap, ◌∙◌}
 use Rattle.std.proofs.lemmas.List.{append_assoc}
 use Rattle.pj_words.specs.declared.word.Word.TheVariants as words
 use Rattle.pj_lex.specs.declared.sign.Sign.{Sign}
@@ -16,14 +16,13 @@ use Rattle.pj_grammar.specs.declared.frame.Frame.TheVariants as frames
 use Rattle.pj_grammar.specs.declared.frame.Purpose.TheVariants as purposes
 use Rattle.pj_grammar.specs.declared.frame.Target.{Target}
 use Rattle.pj_grammar.specs.declared.frame.Target.TheVariants as targets
-use Rattle.pj_grammar.specs.declared.mode.Head.{Head}
 use Rattle.pj_grammar.specs.declared.mode.Head.TheVariants as heads
 use Rattle.pj_grammar.specs.declared.mode.Mode.TheVariants as modes
 use Rattle.pj_grammar.specs.Closing.{after_end, closed_line, closed_set}
 use Rattle.pj_grammar.specs.Expressions.{Reads}
-use Rattle.pj_grammar.specs.Frames.{State, at, is_value, node, takes_lines}
+use Rattle.pj_grammar.specs.Frames.{at, takes_lines}
 use Rattle.pj_grammar.specs.Machine.{after_return, operand, run, set_global, step}
-use Rattle.pj_grammar.specs.Makers.{assign_of, bare_return, break_of, continue_of, field_of, return_of, value_of}
+use Rattle.pj_grammar.specs.Makers.{assign_of, bare_return, break_of, continue_of, return_of, value_of}
 use Rattle.pj_grammar.specs.Modules.{Modules, is_module}
 use Rattle.pj_grammar.specs.Operands.{assignment, have_assign, have_next, next_assignment, next_sign}
 use Rattle.pj_grammar.specs.Statements.{Assigned, Holder, a_field, a_member, a_name, assigning, operator_at, to_field, to_name}
@@ -32,7 +31,7 @@ use Rattle.pj_grammar.proofs.Begin as begin
 use Rattle.pj_grammar.proofs.Begin.{Start, Starts, from-line, starts}
 use Rattle.pj_grammar.proofs.Holes.{LineEnds, an_else_here, an_else_if_here, an_end_here, an_eof_here, a_separator_here, hole-runs, line-ends, line-stops, value-line}
 use Rattle.pj_grammar.proofs.Levels.{absurd-of}
-use Rattle.pj_grammar.proofs.Reading.{module_name, runs-step, state, step-module}
+use Rattle.pj_grammar.proofs.Reading.{runs-step, state, step-module}
 use Rattle.pj_grammar.proofs.Stepping.{step-dot, step-field}
 
 -- an expression

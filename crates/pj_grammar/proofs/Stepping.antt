@@ -1,5 +1,5 @@
 -- Single steps of the machine over operands.
-use Rattle.std.proofs.Common.{◌≡◌, ℕ, Bool, true, false, List, [], ◌∷◌, Option, Some, None, refl, sym, ap, ◌∙◌}
+use Rattle.std.proofs.Common.{◌≡◌, ℕ, Bool, true, false, List, [], ◌∷◌, Some, refl, ap, ◌∙◌}
 use Rattle.pj_lex.specs.declared.sign.Sign.{Sign}
 use Rattle.pj_lex.specs.declared.sign.Sign.TheVariants as signs
 use Rattle.pj_lex.specs.declared.token.TokenKind.{TokenKind}
@@ -19,12 +19,12 @@ use Rattle.pj_grammar.specs.declared.mode.Head.{Head}
 use Rattle.pj_grammar.specs.declared.mode.Head.TheVariants as heads
 use Rattle.pj_grammar.specs.declared.mode.Mode.TheVariants as modes
 use Rattle.pj_grammar.specs.Follows.{follows}
-use Rattle.pj_grammar.specs.Frames.{State, admits, at, give, head_path, is_value, node, settle}
+use Rattle.pj_grammar.specs.Frames.{admits, at, give, head_path, is_value, node, settle}
 use Rattle.pj_grammar.specs.Levels.{fits, is_prefix, left_of, level_of}
 use Rattle.pj_grammar.specs.Machine.{opens_types, operand, operand_literal, run, step}
 use Rattle.pj_grammar.specs.Makers.{field_of, group_of, leaf, literal_of}
 use Rattle.pj_grammar.specs.Modules.{Modules}
-use Rattle.pj_grammar.specs.Operands.{close_call, extend, have_dot, have_next, infix_, next, next_infix, next_sign, open_call, open_direct}
+use Rattle.pj_grammar.specs.Operands.{close_call, have_next, infix_, next_infix, next_sign, open_call}
 use Rattle.pj_grammar.specs.Tokens.{Place, name, place, sign, spot, token}
 use Rattle.pj_grammar.proofs.Follow.{Pending, over}
 use Rattle.pj_grammar.proofs.Levels.{Splits, absurd-of, settles-not, splits-conditional}

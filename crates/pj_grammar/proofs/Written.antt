@@ -1,5 +1,5 @@
 -- The machine reads each statement and each block of the grammar.
-use Rattle.std.proofs.Common.{◌≡◌, ℕ, Bool, true, false, not, ◌&&◌, ◌||◌, List, [], ◌∷◌, ◌++◌, Option, Some, None, codes, refl, sym, ap, ◌∙◌, if◌then◌else◌}
+use Rattle.std.proofs.Common.{◌≡◌, ℕ, Bool, true, false, not, ◌&&◌, List, [], ◌∷◌, ◌++◌, Some, None, codes, refl, sym, ap, ◌∙◌}
 use Rattle.std.proofs.lemmas.List.{append_assoc}
 use Rattle.pj_words.specs.declared.word.Word.TheVariants as words
 use Rattle.pj_lex.specs.declared.sign.Sign.TheVariants as signs
@@ -7,18 +7,16 @@ use Rattle.pj_lex.specs.declared.token.TokenKind.{TokenKind}
 use Rattle.pj_lex.specs.declared.token.TokenKind.TheVariants as kinds
 use Rattle.pj_lex.specs.declared.token.Token.{Token}
 use Rattle.pj_syntax.specs.declared.expression.Spot.{Spot}
-use Rattle.pj_syntax.specs.declared.expression.Path.TheVariants as paths
 use Rattle.pj_grammar.specs.declared.node.Line.{Line}
 use Rattle.pj_grammar.specs.declared.node.Lines.{Lines}
 use Rattle.pj_grammar.specs.declared.frame.Frame.{Frame}
 use Rattle.pj_grammar.specs.declared.frame.Frame.TheVariants as frames
-use Rattle.pj_grammar.specs.declared.frame.Given.TheVariants as given
 use Rattle.pj_grammar.specs.declared.frame.Opener.{Opener}
 use Rattle.pj_grammar.specs.declared.frame.Purpose.TheVariants as purposes
 use Rattle.pj_grammar.specs.declared.mode.Head.TheVariants as heads
 use Rattle.pj_grammar.specs.declared.mode.Mode.TheVariants as modes
 use Rattle.pj_grammar.specs.Closing.{closed_line, ending}
-use Rattle.pj_grammar.specs.Frames.{State, at, guarded, settle, takes_lines}
+use Rattle.pj_grammar.specs.Frames.{at, guarded, settle, takes_lines}
 use Rattle.pj_grammar.specs.Machine.{eval_name_then, payload, reads_name, run, step}
 use Rattle.pj_grammar.specs.Makers.{Evaluated, Method, eval_of, line_after, line_before}
 use Rattle.pj_grammar.specs.Modules.{Modules, is_module}
@@ -27,7 +25,7 @@ use Rattle.pj_grammar.specs.Statements.{Block, Defines, Otherwise, Payload, Stat
 use Rattle.pj_grammar.specs.Tokens.{Place, name, place, separator, sign, spot, token, word}
 use Rattle.pj_grammar.proofs.Begin as begin
 use Rattle.pj_grammar.proofs.Begin.{Start, Starts, starts, starts-callee, starts-more}
-use Rattle.pj_grammar.proofs.Blocks.{BlockRuns, BranchesRun, LineRuns, else-if-runs, else-runs, end-runs, for-runs, if-runs, joined, joined-after, last-line-runs, no-lines-run, skip-runs, then-lines-run, while-runs}
+use Rattle.pj_grammar.proofs.Blocks.{BlockRuns, BranchesRun, LineRuns, else-if-runs, else-runs, end-runs, for-runs, if-runs, joined-after, last-line-runs, no-lines-run, skip-runs, then-lines-run, while-runs}
 use Rattle.pj_grammar.proofs.Evaluations.{plain, quoted, step-eval-name}
 use Rattle.pj_grammar.proofs.Levels.{absurd-of}
 use Rattle.pj_grammar.proofs.Payloads.{PayloadRuns, long-payload-runs, only-runs, set-runs, short-payload-runs}

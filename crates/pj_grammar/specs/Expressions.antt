@@ -1,13 +1,11 @@
 -- The grammar of names and expressions, over the tokens that a form has.
-use Rattle.std.specs.Prelude.{◌≡◌, ℕ, Bool, true, false, not, ◌&&◌, List, [], ◌∷◌, ◌++◌, Option, Some, None, codes}
-use Rattle.pj_words.specs.declared.word.Word.TheVariants as words
+use Rattle.std.specs.Prelude.{◌≡◌, ℕ, Bool, true, false, not, List, [], ◌∷◌, ◌++◌, Some, codes}
 use Rattle.pj_lex.specs.declared.sign.Sign.{Sign}
 use Rattle.pj_lex.specs.declared.sign.Sign.TheVariants as signs
 use Rattle.pj_lex.specs.declared.token.TokenKind.{TokenKind}
 use Rattle.pj_lex.specs.declared.token.TokenKind.TheVariants as kinds
 use Rattle.pj_lex.specs.declared.token.Token.{Token}
 use Rattle.pj_lex.specs.Signs.{is_operator}
-use Rattle.pj_syntax.specs.declared.expression.Spot.{Spot}
 use Rattle.pj_syntax.specs.declared.expression.Path.{Path}
 use Rattle.pj_syntax.specs.declared.expression.Path.TheVariants as paths
 use Rattle.pj_syntax.specs.declared.expression.Expr.{Expr}

@@ -11,7 +11,6 @@ use Rattle.pj_lex.specs.declared.token.TokenKind.TheVariants as kinds
 use Rattle.pj_lex.specs.Signs.{is_operator}
 use Rattle.pj_syntax.specs.declared.expression.Spot.{Spot}
 use Rattle.pj_syntax.specs.declared.expression.Expr.{Expr}
-use Rattle.pj_syntax.specs.declared.expression.Path.{Path}
 use Rattle.pj_syntax.specs.declared.expression.Path.TheVariants as paths
 use Rattle.pj_grammar.specs.declared.level.Level.TheVariants as levels
 use Rattle.pj_grammar.specs.declared.frame.Frame.{Frame}
@@ -29,8 +28,8 @@ use Rattle.pj_grammar.specs.declared.mode.Mode.TheVariants as modes
 use Rattle.pj_grammar.specs.declared.mode.Parsed.{Parsed}
 use Rattle.pj_grammar.specs.declared.mode.Parsed.TheVariants as parsed
 use Rattle.pj_grammar.specs.declared.node.Node.{Node}
-use Rattle.pj_grammar.specs.Closing.{after_end, after_end_at, after_line, closed_entry, closed_line, ending}
-use Rattle.pj_grammar.specs.Frames.{State, admits, at, guarded, params_of, takes_definition, takes_directives, takes_items, takes_lines, takes_uses}
+use Rattle.pj_grammar.specs.Closing.{after_end, after_line, closed_entry, closed_line, ending}
+use Rattle.pj_grammar.specs.Frames.{State, admits, at, guarded, params_of, takes_directives, takes_items, takes_lines, takes_uses}
 use Rattle.pj_grammar.specs.Levels.{is_prefix, operator_text}
 use Rattle.pj_grammar.specs.Makers.{bare_return, break_of, continue_of, declared, directive_of, field_of, leaf, literal_of, no_entries, using_of}
 use Rattle.pj_grammar.specs.Modules.{Modules, is_module}

@@ -18,7 +18,7 @@ use Rattle.pj_grammar.specs.declared.mode.Head.{Head}
 use Rattle.pj_grammar.specs.declared.mode.Head.TheVariants as heads
 use Rattle.pj_grammar.specs.declared.mode.Mode.{Mode}
 use Rattle.pj_grammar.specs.declared.mode.Mode.TheVariants as modes
-use Rattle.pj_grammar.specs.Frames.{State, is_value, node, takes_lines}
+use Rattle.pj_grammar.specs.Frames.{State, node, takes_lines}
 use Rattle.pj_grammar.specs.Makers.{infix_height, lacks, paths_given, target_value}
 
 -- What the frames add: how many nodes stand above what is read next, and how deep what was read before nests.

@@ -1,10 +1,9 @@
 -- How worked rows write texts: their tokens with a blank between each two.
-use Rattle.std.specs.Prelude.{◌≡◌, ℕ, suc, ◌+◌, ◌-◌, ◌==◌, nat_le, pos, negsuc, Bool, true, false, ◌&&◌, List, [], ◌∷◌, ◌++◌, Option, Some, None, codes, find, map, if◌then◌else◌}
+use Rattle.std.specs.Prelude.{◌≡◌, ℕ, suc, ◌+◌, ◌-◌, ◌==◌, nat_le, pos, Bool, false, ◌&&◌, List, [], ◌∷◌, Option, Some, None, codes, find, map, if◌then◌else◌}
 use Prim.Native.String.{String}
 use Rattle.std.specs.Str.{bytes_eq}
 use Rattle.pj_words.specs.Reserved.{reserved_word}
 use Rattle.pj_lex.specs.Signs.{all_signs, sign_text}
-use Rattle.pj_lex.specs.declared.sign.Sign.{Sign}
 use Rattle.pj_lex.specs.declared.sign.Sign.TheVariants as signs
 use Rattle.pj_lex.specs.declared.token.TokenKind.{TokenKind}
 use Rattle.pj_lex.specs.declared.token.TokenKind.TheVariants as kinds

@@ -2,9 +2,8 @@
 use Rattle.std.specs.Prelude.{true, false, Some, None, [], ◌∷◌, codes}
 use Rattle.pj_syntax.specs.declared.expression.Expr.TheVariants as trees
 use Rattle.pj_syntax.specs.declared.statement.Stmt.TheVariants as statements
-use Rattle.pj_syntax.specs.declared.statement.Payload.TheVariants as payloads
 use Rattle.pj_syntax.specs.declared.item.Item.TheVariants as items
-use Rattle.pj_grammar.specs.RowTexts.{Each, bare, call, int, latest, method, of, package_of, param, script_of, spot, stops, whole}
+use Rattle.pj_grammar.specs.RowTexts.{Each, bare, call, int, method, of, param, script_of, spot, stops, whole}
 use Rattle.pj_grammar.specs.Texts.{script}
 
 abbrev pub methods : Type 0

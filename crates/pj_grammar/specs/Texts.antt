@@ -7,8 +7,6 @@ use Rattle.pj_lex.specs.declared.token.Token.{Token}
 use Rattle.pj_syntax.specs.declared.expression.Spot.{Spot}
 use Rattle.pj_syntax.specs.declared.expression.Path.{Path}
 use Rattle.pj_syntax.specs.declared.statement.Param.{Param}
-use Rattle.pj_syntax.specs.declared.item.Script.{Script}
-use Rattle.pj_syntax.specs.declared.item.Package.{Package}
 use Rattle.pj_grammar.specs.declared.level.Level.TheVariants as levels
 use Rattle.pj_grammar.specs.declared.node.Node.{Node}
 use Rattle.pj_grammar.specs.declared.node.Line.{Line}
@@ -18,7 +16,7 @@ use Rattle.pj_grammar.specs.declared.mode.Parsed.TheVariants as parsed
 use Rattle.pj_grammar.specs.Expressions.{Callee, Named, Reads}
 use Rattle.pj_grammar.specs.Makers.{Entry, Method, abstract_of, const_of, declared, directive_of, entry_before, method_defined, no_entries, run_of, struct_of, using_of}
 use Rattle.pj_grammar.specs.Modules.{Modules, is_module}
-use Rattle.pj_grammar.specs.Statements.{Defines, Parameter, Statement, Typed, eval_name}
+use Rattle.pj_grammar.specs.Statements.{Defines, Statement, Typed, eval_name}
 use Rattle.pj_grammar.specs.Tokens.{Place, name, separator, sign, spot, token, word}
 
 -- which text it is

@@ -7,12 +7,15 @@ use Rattle.pj_grammar.specs.declared.node.Node.{Node}
 use Rattle.pj_grammar.specs.declared.frame.Frame.{Frame}
 use Rattle.pj_grammar.specs.declared.mode.Head.{Head}
 use Rattle.pj_grammar.specs.declared.mode.Mode.TheVariants as modes
+use Rattle.pj_grammar.specs.declared.node.Line.{Line}
+use Rattle.pj_grammar.specs.Closing.{closed_line}
 use Rattle.pj_grammar.specs.Expressions.{Reads}
 use Rattle.pj_grammar.specs.Follows.{follows}
-use Rattle.pj_grammar.specs.Frames.{State, admits, at, is_value, node}
-use Rattle.pj_grammar.specs.Machine.{accepted, run, start, step}
+use Rattle.pj_grammar.specs.Frames.{State, admits, at, is_value, node, takes_lines}
+use Rattle.pj_grammar.specs.Machine.{accepted, ends_line, run, start}
 use Rattle.pj_grammar.specs.Modules.{Modules}
 use Rattle.pj_grammar.specs.Need.{need}
+use Rattle.pj_grammar.specs.Statements.{Statement}
 use Rattle.pj_grammar.specs.Texts.{IsText, Kind}
 
 -- `Base` is a module of every text
@@ -60,6 +63,13 @@ pub record ReadAs (modules : Modules) (frames : List Frame) (level : Level) (tok
 abbrev pub CompleteExpressions : Type 0
 CompleteExpressions = (modules : Modules) (level : Level) (tokens : List Token) (e : Node) → Reads (with_base modules) level tokens e
     → (frames : List Frame) → admits frames level ≡ true → ReadAs (with_base modules) frames level tokens e
+
+-- It reads each statement of the grammar where statements stand, before each token that ends one. This is the part of `Complete`
+-- that speaks of statements, blocks, definitions in them and what they evaluate.
+abbrev pub CompleteStatements : Type 0
+CompleteStatements = (modules : Modules) (tokens : List Token) (s : Line) → Statement (with_base modules) tokens s
+    → (frames : List Frame) → takes_lines frames ≡ true → (t : Token) (rest : List Token) → ends_line t.what ≡ true
+    → run (with_base modules) (tokens ++ t ∷ rest) (at modes.Line frames) ≡ run (with_base modules) (t ∷ rest) (closed_line s frames)
 
 -- The machine accepts every text of the grammar, with its tree.
 abbrev pub Complete : Type 0
