@@ -1,0 +1,16 @@
+pub mod Adding
+pub mod Begin
+pub mod Blocks
+pub mod Computing
+pub mod Evaluations
+pub mod Expressions
+pub mod Follow
+pub mod Holes
+pub mod Levels
+pub mod Nesting
+pub mod Parameters
+pub mod Payloads
+pub mod Reading
+pub mod Statements
+pub mod Stepping
+pub mod Written

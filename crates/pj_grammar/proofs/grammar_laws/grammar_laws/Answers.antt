@@ -1,0 +1,16 @@
+use Rattle.std.specs.Prelude.{refl}
+use Rattle.pj_grammar.proofs.Expressions.{reads}
+use Rattle.pj_grammar.proofs.Holes.{line-ends-here}
+use Rattle.pj_grammar.proofs.Nesting.{need-nesting}
+use Rattle.pj_grammar.proofs.Written.{statement}
+use Rattle.pj_grammar.proofs.grammar_laws.grammar_laws.Goals as goal
+
+pub returns-clause-complete_expressions : goal.returns-clause-complete_expressions
+returns-clause-complete_expressions c = λ modules l ts e d k adm.
+    let i = reads refl d k adm in record { head = i.head; is = i.is; value = i.value; runs = i.runs }
+
+pub returns-clause-complete_statements : goal.returns-clause-complete_statements
+returns-clause-complete_statements c = λ modules ts s d k takes t rest ends. statement refl d k takes t rest (line-ends-here t.what ends)
+
+pub returns-clause-need_is_nesting : goal.returns-clause-need_is_nesting
+returns-clause-need_is_nesting c = λ s tree nesting. need-nesting s.mode s.frames tree nesting
