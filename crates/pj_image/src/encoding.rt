@@ -11,7 +11,7 @@ use pj_base::{ByteList, NoMemory};
 use std::alloc::Global;
 
 /// Adds sections 1 to 6.
-#[tactic(auto, using(crate::proofs::Joined::joined))]
+#[tactic(auto, using(crate::proofs::Joined::joined, pj_parts::proofs::NoneYet::no_types, pj_parts::proofs::NoneYet::no_objects))]
 fn put_declared(alloc: Global, image: &Image, out: &mut ByteList) -> Result<(), NoMemory>
     requires { Formed image.now }
     ensures { OnOk result (out.new ≡ out.old ++ declared_sections image.now) }
@@ -35,7 +35,7 @@ fn put_bodies(alloc: Global, image: &Image, out: &mut ByteList) -> Result<(), No
 }
 
 /// Adds sections 9 to 12.
-#[tactic(auto, using(crate::proofs::Joined::joined))]
+#[tactic(auto, using(crate::proofs::Joined::joined, pj_parts::proofs::NoneYet::no_directives, pj_parts::proofs::NoneYet::no_records, pj_parts::proofs::NoneYet::no_code))]
 fn put_ending(alloc: Global, image: &Image, out: &mut ByteList) -> Result<(), NoMemory>
     requires { Formed image.now }
     ensures { OnOk result (out.new ≡ out.old ++ ending_sections image.now) }

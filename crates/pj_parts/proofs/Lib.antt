@@ -7,3 +7,4 @@ pub mod Forms
 pub mod TreeSizes
 pub mod TreeParts
 pub mod PartLaws
+pub mod NoneYet

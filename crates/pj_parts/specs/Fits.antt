@@ -4,6 +4,15 @@ use Rattle.std.specs.Int.{w64}
 use Rattle.std.specs.List.{AllByRecursion}
 use Rattle.std.specs.Str.{is_utf8}
 use Rattle.pj_reloc.specs.declared.entry.Entry.{Entry}
+use Rattle.pj_parts.specs.declared.types.Dependency.{Dependency}
+use Rattle.pj_parts.specs.declared.types.TypeDef.{TypeDef}
+use Rattle.pj_parts.specs.declared.types.Object.{Object}
+use Rattle.pj_parts.specs.declared.types.Directive.{Directive}
+use Rattle.pj_parts.specs.declared.types.Element.{Element}
+use Rattle.pj_parts.specs.declared.types.Element.TheVariants as elements
+use Rattle.pj_parts.specs.declared.types.Edge.{Edge}
+use Rattle.pj_parts.specs.declared.types.Edge.TheVariants as edges
+use Rattle.pj_parts.specs.declared.types.CodeRecord.{CodeRecord}
 use Rattle.pj_parts.specs.declared.types.Head.{Head}
 use Rattle.pj_parts.specs.declared.types.FunDef.{FunDef}
 use Rattle.pj_parts.specs.declared.types.Value.{Value, out-Value}
@@ -55,3 +64,30 @@ MethodFits m = NumberFits m.fun × (ListFits NumberFits m.types × NumberFits m.
 
 abbrev pub EntryFits : Entry → Type 0
 EntryFits e = NumberFits e.place × (⊤ × (NumberFits e.dependency × NumberFits e.ordinal))
+
+-- ---- parts that can be spelled, and aren't read yet: their lists aren't too long
+
+abbrev pub DependencyFits : Dependency → Type 0
+DependencyFits d = TextFits d.name
+
+abbrev pub TypeDefFits : TypeDef → Type 0
+TypeDefFits d = ListFits (λ f. ⊤) d.fields
+
+abbrev pub ObjectFits : Object → Type 0
+ObjectFits o = ListFits ValueFits o.values
+
+abbrev pub DirectiveFits : Directive → Type 0
+DirectiveFits d = ListFits NumberFits d.types
+
+abbrev pub ElementFits : Element → Type 0
+ElementFits elements.Bottom = ⊤
+ElementFits (elements.OneOf types) = ListFits NumberFits types
+ElementFits (elements.Below above) = ⊤
+ElementFits elements.Any = ⊤
+
+abbrev pub EdgeFits : Edge → Type 0
+EdgeFits (edges.Call fun types picked) = ListFits NumberFits types
+EdgeFits (edges.Meets fun elems methods) = ListFits ElementFits elems × ListFits NumberFits methods
+
+abbrev pub CodeRecordFits : CodeRecord → Type 0
+CodeRecordFits r = ListFits ElementFits r.params × (ElementFits r.outcome × (ListFits EdgeFits r.edges × ListFits NumberFits r.links))

@@ -8,21 +8,24 @@ use crate::fault::PartFault;
 use crate::part::Part;
 use crate::types::{FieldDef, FunDef, TypeDef};
 use pj_base::{ByteList, NoMemory};
+use pj_fields::put_number;
 use std::alloc::Global;
 
 impl Part for FieldDef {
-    ghost use Rattle.pj_parts.specs.Fits.{NoneYet};
+    ghost use Rattle.std.specs.Prelude.{⊤};
     ghost use Rattle.pj_parts.specs.Reading.{nothing_at};
     ghost use Rattle.pj_parts.specs.Spelling.{field_def};
 
     ghost bytes = { field_def };
 
-    ghost fits = { NoneYet };
+    ghost fits = { λ f. ⊤ };
 
     ghost at = { nothing_at };
 
-    fn put(&self, _alloc: Global, _out: &mut ByteList) -> Result<(), NoMemory> {
-        Ok(())
+    #[tactic(auto, using(crate::proofs::Joined::joined))]
+    fn put(&self, _alloc: Global, out: &mut ByteList) -> Result<(), NoMemory> {
+        put_number(self.name, out)?;
+        put_number(self.declared, out)
     }
 
     #[tactic(auto, unfolding(crate::specs::Reading::nothing_at))]
@@ -37,18 +40,22 @@ impl Part for FieldDef {
 }
 
 impl Part for TypeDef {
-    ghost use Rattle.pj_parts.specs.Fits.{NoneYet};
+    ghost use Rattle.pj_parts.specs.Fits.{TypeDefFits};
     ghost use Rattle.pj_parts.specs.Reading.{nothing_at};
     ghost use Rattle.pj_parts.specs.Spelling.{type_def};
 
     ghost bytes = { type_def };
 
-    ghost fits = { NoneYet };
+    ghost fits = { TypeDefFits };
 
     ghost at = { nothing_at };
 
-    fn put(&self, _alloc: Global, _out: &mut ByteList) -> Result<(), NoMemory> {
-        Ok(())
+    #[tactic(auto, using(crate::proofs::Joined::joined))]
+    fn put(&self, alloc: Global, out: &mut ByteList) -> Result<(), NoMemory> {
+        put_number(self.name, out)?;
+        put_number(self.form.number(), out)?;
+        put_number(self.parent, out)?;
+        self.fields.put(alloc, out)
     }
 
     #[tactic(auto, unfolding(crate::specs::Reading::nothing_at))]

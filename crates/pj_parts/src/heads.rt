@@ -12,18 +12,20 @@ use sqlite_items::Items;
 use std::alloc::Global;
 
 impl Part for Dependency {
-    ghost use Rattle.pj_parts.specs.Fits.{NoneYet};
+    ghost use Rattle.pj_parts.specs.Fits.{DependencyFits};
     ghost use Rattle.pj_parts.specs.Reading.{nothing_at};
     ghost use Rattle.pj_parts.specs.Spelling.{dependency};
 
     ghost bytes = { dependency };
 
-    ghost fits = { NoneYet };
+    ghost fits = { DependencyFits };
 
     ghost at = { nothing_at };
 
-    fn put(&self, _alloc: Global, _out: &mut ByteList) -> Result<(), NoMemory> {
-        Ok(())
+    #[tactic(auto, using(crate::proofs::Joined::joined))]
+    fn put(&self, alloc: Global, out: &mut ByteList) -> Result<(), NoMemory> {
+        self.name.put(alloc, out)?;
+        out.extend(&self.identity)
     }
 
     #[tactic(auto, unfolding(crate::specs::Reading::nothing_at))]
@@ -48,7 +50,7 @@ impl Part for Head {
 
     ghost at = { head_at };
 
-    #[tactic(auto, using(crate::proofs::Joined::joined))]
+    #[tactic(auto, using(crate::proofs::Joined::joined, crate::proofs::NoneYet::no_dependencies))]
     fn put(&self, alloc: Global, out: &mut ByteList) -> Result<(), NoMemory> {
         self.name.put(alloc, out)?;
         self.dependencies.put(alloc, out)

@@ -8,22 +8,25 @@ use crate::fault::PartFault;
 use crate::part::Part;
 use crate::types::{Directive, Method, Object};
 use pj_base::{ByteList, NoMemory};
+use pj_fields::put_number;
 use sqlite_items::Items;
 use std::alloc::Global;
 
 impl Part for Object {
-    ghost use Rattle.pj_parts.specs.Fits.{NoneYet};
+    ghost use Rattle.pj_parts.specs.Fits.{ObjectFits};
     ghost use Rattle.pj_parts.specs.Reading.{nothing_at};
     ghost use Rattle.pj_parts.specs.Spelling.{object};
 
     ghost bytes = { object };
 
-    ghost fits = { NoneYet };
+    ghost fits = { ObjectFits };
 
     ghost at = { nothing_at };
 
-    fn put(&self, _alloc: Global, _out: &mut ByteList) -> Result<(), NoMemory> {
-        Ok(())
+    #[tactic(auto, using(crate::proofs::Joined::joined))]
+    fn put(&self, alloc: Global, out: &mut ByteList) -> Result<(), NoMemory> {
+        put_number(self.declared, out)?;
+        self.values.put(alloc, out)
     }
 
     #[tactic(auto, unfolding(crate::specs::Reading::nothing_at))]
@@ -70,18 +73,20 @@ impl Part for Method {
 }
 
 impl Part for Directive {
-    ghost use Rattle.pj_parts.specs.Fits.{NoneYet};
+    ghost use Rattle.pj_parts.specs.Fits.{DirectiveFits};
     ghost use Rattle.pj_parts.specs.Reading.{nothing_at};
     ghost use Rattle.pj_parts.specs.Spelling.{directive};
 
     ghost bytes = { directive };
 
-    ghost fits = { NoneYet };
+    ghost fits = { DirectiveFits };
 
     ghost at = { nothing_at };
 
-    fn put(&self, _alloc: Global, _out: &mut ByteList) -> Result<(), NoMemory> {
-        Ok(())
+    #[tactic(auto, using(crate::proofs::Joined::joined))]
+    fn put(&self, alloc: Global, out: &mut ByteList) -> Result<(), NoMemory> {
+        put_number(self.fun, out)?;
+        self.types.put(alloc, out)
     }
 
     #[tactic(auto, unfolding(crate::specs::Reading::nothing_at))]

@@ -2,27 +2,43 @@
 
 ghost use Rattle.std.specs.Prelude.{◌≡◌, ◌++◌, OnOk, length};
 ghost use Rattle.pj_parts.specs.Capped.{capped};
+ghost use Rattle.pj_fields.specs.Fields.{list, number};
+ghost use Rattle.pj_parts.specs.Fits.{EdgeFits, ListFits, NumberFits};
 ghost use Rattle.pj_parts.specs.Given.{Gives};
+ghost use Rattle.pj_parts.specs.Spelling.{edge};
 
 use crate::fault::PartFault;
 use crate::part::Part;
 use crate::types::{CodeRecord, CodeWord, Edge, Element, Outcome};
 use pj_base::{ByteList, NoMemory};
+use pj_fields::put_number;
 use std::alloc::Global;
 
 impl Part for Element {
-    ghost use Rattle.pj_parts.specs.Fits.{NoneYet};
+    ghost use Rattle.pj_parts.specs.Fits.{ElementFits};
     ghost use Rattle.pj_parts.specs.Reading.{nothing_at};
     ghost use Rattle.pj_parts.specs.Spelling.{element};
 
     ghost bytes = { element };
 
-    ghost fits = { NoneYet };
+    ghost fits = { ElementFits };
 
     ghost at = { nothing_at };
 
-    fn put(&self, _alloc: Global, _out: &mut ByteList) -> Result<(), NoMemory> {
-        Ok(())
+    #[tactic(auto, using(crate::proofs::Joined::joined))]
+    fn put(&self, alloc: Global, out: &mut ByteList) -> Result<(), NoMemory> {
+        match self {
+            Element::Bottom => put_number(0, out),
+            Element::OneOf(types) => {
+                put_number(1, out)?;
+                types.put(alloc, out)
+            }
+            Element::Below(above) => {
+                put_number(2, out)?;
+                put_number(*above, out)
+            }
+            Element::Any => put_number(3, out),
+        }
     }
 
     #[tactic(auto, unfolding(crate::specs::Reading::nothing_at))]
@@ -41,18 +57,26 @@ impl Part for Element {
 }
 
 impl Part for Outcome {
-    ghost use Rattle.pj_parts.specs.Fits.{NoneYet};
+    ghost use Rattle.std.specs.Prelude.{⊤};
     ghost use Rattle.pj_parts.specs.Reading.{nothing_at};
     ghost use Rattle.pj_parts.specs.Spelling.{outcome};
 
     ghost bytes = { outcome };
 
-    ghost fits = { NoneYet };
+    ghost fits = { λ o. ⊤ };
 
     ghost at = { nothing_at };
 
-    fn put(&self, _alloc: Global, _out: &mut ByteList) -> Result<(), NoMemory> {
-        Ok(())
+    #[tactic(auto, using(crate::proofs::Joined::joined))]
+    fn put(&self, _alloc: Global, out: &mut ByteList) -> Result<(), NoMemory> {
+        match self {
+            Outcome::One(method) => {
+                put_number(0, out)?;
+                put_number(*method, out)
+            }
+            Outcome::NoneMatch => put_number(1, out),
+            Outcome::Ambiguous => put_number(2, out),
+        }
     }
 
     #[tactic(auto, unfolding(crate::specs::Reading::nothing_at))]
@@ -70,18 +94,40 @@ impl Part for Outcome {
 }
 
 impl Part for Edge {
-    ghost use Rattle.pj_parts.specs.Fits.{NoneYet};
+    ghost use Rattle.pj_parts.specs.Fits.{EdgeFits};
     ghost use Rattle.pj_parts.specs.Reading.{nothing_at};
     ghost use Rattle.pj_parts.specs.Spelling.{edge};
 
     ghost bytes = { edge };
 
-    ghost fits = { NoneYet };
+    ghost fits = { EdgeFits };
 
     ghost at = { nothing_at };
 
-    fn put(&self, _alloc: Global, _out: &mut ByteList) -> Result<(), NoMemory> {
-        Ok(())
+    #[tactic(auto, using(crate::proofs::Joined::joined))]
+    fn put(&self, alloc: Global, out: &mut ByteList) -> Result<(), NoMemory> {
+        match self {
+            Edge::Call {
+                fun,
+                types,
+                outcome,
+            } => {
+                put_number(0, out)?;
+                put_number(*fun, out)?;
+                types.put(alloc, out)?;
+                outcome.put(alloc, out)
+            }
+            Edge::Meets {
+                fun,
+                elements,
+                methods,
+            } => {
+                put_number(1, out)?;
+                put_number(*fun, out)?;
+                elements.put(alloc, out)?;
+                methods.put(alloc, out)
+            }
+        }
     }
 
     #[tactic(auto, unfolding(crate::specs::Reading::nothing_at))]
@@ -110,19 +156,36 @@ impl Part for Edge {
     }
 }
 
+/// Adds what a record has behind its elements.
+#[tactic(auto, using(crate::proofs::Joined::joined))]
+fn put_rest(alloc: Global, code: &CodeRecord, out: &mut ByteList) -> Result<(), NoMemory>
+    requires edges { ListFits EdgeFits code.now.edges }
+    requires links { ListFits NumberFits code.now.links }
+    ensures { OnOk result (out.new ≡ out.old ++ (list edge code.now.edges ++ (list number code.now.links ++ (number code.now.registers ++ number code.now.instructions)))) }
+{
+    code.edges.put(alloc, out)?;
+    code.links.put(alloc, out)?;
+    put_number(code.registers, out)?;
+    put_number(code.instructions, out)
+}
+
 impl Part for CodeRecord {
-    ghost use Rattle.pj_parts.specs.Fits.{NoneYet};
+    ghost use Rattle.pj_parts.specs.Fits.{CodeRecordFits};
     ghost use Rattle.pj_parts.specs.Reading.{nothing_at};
     ghost use Rattle.pj_parts.specs.Spelling.{code_record};
 
     ghost bytes = { code_record };
 
-    ghost fits = { NoneYet };
+    ghost fits = { CodeRecordFits };
 
     ghost at = { nothing_at };
 
-    fn put(&self, _alloc: Global, _out: &mut ByteList) -> Result<(), NoMemory> {
-        Ok(())
+    #[tactic(auto, using(crate::proofs::Joined::joined))]
+    fn put(&self, alloc: Global, out: &mut ByteList) -> Result<(), NoMemory> {
+        put_number(self.method, out)?;
+        self.params.put(alloc, out)?;
+        self.outcome.put(alloc, out)?;
+        put_rest(alloc, self, out)
     }
 
     #[tactic(auto, unfolding(crate::specs::Reading::nothing_at))]
@@ -139,18 +202,19 @@ impl Part for CodeRecord {
 }
 
 impl Part for CodeWord {
-    ghost use Rattle.pj_parts.specs.Fits.{NoneYet};
+    ghost use Rattle.std.specs.Prelude.{⊤};
     ghost use Rattle.pj_parts.specs.Reading.{nothing_at};
     ghost use Rattle.pj_parts.specs.Spelling.{code_word};
 
     ghost bytes = { code_word };
 
-    ghost fits = { NoneYet };
+    ghost fits = { λ w. ⊤ };
 
     ghost at = { nothing_at };
 
-    fn put(&self, _alloc: Global, _out: &mut ByteList) -> Result<(), NoMemory> {
-        Ok(())
+    #[tactic(auto, using(crate::proofs::Joined::joined))]
+    fn put(&self, _alloc: Global, out: &mut ByteList) -> Result<(), NoMemory> {
+        put_number(self.0, out)
     }
 
     #[tactic(auto, unfolding(crate::specs::Reading::nothing_at))]

@@ -2,6 +2,9 @@
 //! a function, a method, a binding, an object, a record or a tree is a plain number here: the k-th mention of the file, in
 //! the order of bytes and from 0, holds k, and the k-th entry says what it names.
 
+ghost use Rattle.std.specs.Prelude.{◌≡◌};
+ghost use Rattle.pj_parts.specs.Spelling.{form_number};
+
 use pj_base::Text;
 use sqlite_items::Items;
 
@@ -25,6 +28,19 @@ pub enum TypeForm {
     Abstract,
     Immutable,
     Mutable,
+}
+
+impl TypeForm {
+    /// The number of a form in an image's bytes.
+    pub fn number(self) -> u32
+        ensures { result ≡ form_number self }
+    {
+        match self {
+            TypeForm::Abstract => 0,
+            TypeForm::Immutable => 1,
+            TypeForm::Mutable => 2,
+        }
+    }
 }
 
 /// A field of a struct: its name, and a mention of its type.
