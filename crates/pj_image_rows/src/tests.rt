@@ -250,12 +250,18 @@ fn named<K: Kind>(
 #[test]
 fn entries_name_targets(rt: HostRuntime) -> Result<(), Fail> {
     let alloc = rt.alloc();
-    assert_eq!(rt; named::<KType>(alloc, KindTag::TypeKind, 0, 10)?, Some((0, 10)));
+    assert_eq!(rt;
+        named::<KType>(alloc, KindTag::TypeKind, 0, 10)?,
+        Some((0, 10))
+    );
     assert_eq!(rt; named::<KType>(alloc, KindTag::TypeKind, 0, 11)?, None);
     assert_eq!(rt; named::<KFun>(alloc, KindTag::TypeKind, 0, 5)?, None);
     assert_eq!(rt; named::<KFun>(alloc, KindTag::FunKind, 1, 0)?, Some((3, 0)));
     assert_eq!(rt; named::<KFun>(alloc, KindTag::FunKind, 1, 1)?, None);
     assert_eq!(rt; named::<KFun>(alloc, KindTag::FunKind, 2, 0)?, None);
-    assert_eq!(rt; named::<KTree>(alloc, KindTag::TreeKind, 1, 0)?, Some((3, 0)));
+    assert_eq!(rt;
+        named::<KTree>(alloc, KindTag::TreeKind, 1, 0)?,
+        Some((3, 0))
+    );
     Ok(())
 }
