@@ -1,5 +1,5 @@
 -- The bytes of pieces, and what the walk over them says.
-use Rattle.std.proofs.Common.{◌≡◌, ℕ, zero, suc, ◌+◌, Bool, true, false, cond, eqb, List, [], ◌∷◌, ◌++◌, map, length, Option, Some, None, refl, sym, ap, subst, ◌∙◌, append_assoc, arith, eq-eqb}
+use Rattle.std.proofs.Common.{◌≡◌, ℕ, ◌+◌, Bool, true, false, cond, eqb, List, [], ◌∷◌, ◌++◌, map, length, Option, Some, None, refl, sym, ap, subst, ◌∙◌, append_assoc, arith, eq-eqb}
 use Rattle.std.specs.Prelude.{◌&&◌, option_and_then}
 use Rattle.std.specs.List.{flat_map}
 use Rattle.std.proofs.lemmas.Bool.{eqb-true}
@@ -9,7 +9,7 @@ use Rattle.pj_fields.specs.Fields.{number, list}
 use Rattle.pj_reloc.specs.declared.entry.Entry.{Entry}
 use Rattle.pj_parts.specs.declared.types.Method.{Method}
 use Rattle.pj_parts.specs.Spelling.{method}
-use Rattle.pj_image.specs.Pieces.{Piece, Plain, Mention, bytes_of, method_pieces, methods_pieces, Walk, walk, walk_from, past, past_mention, is_over, placed}
+use Rattle.pj_image.specs.Pieces.{Piece, Plain, Mention, bytes_of, method_pieces, methods_pieces, Walk, walk, walk_from, is_over}
 use Rattle.pj_image.specs.Mentions.{mentions_of, places_from, count_from}
 
 -- ---- bytes
