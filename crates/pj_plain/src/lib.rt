@@ -1,0 +1,7 @@
+//! Plain scripts: definitions of functions of whole numbers, and calls of them that are printed.
+#![tactic(auto)]
+
+pub mod expression;
+pub mod tree;
+
+pub use tree::{Definition, Expr, Item, Operator, Script};
