@@ -1,2 +1,4 @@
 pub mod NamePlaces
 pub mod Pairs
+pub mod Scopes
+pub mod Lists

@@ -1,14 +1,17 @@
 -- What is found plain, and what isn't.
-use Rattle.std.specs.Prelude.{◌≡◌, ℕ, ◌<◌, ◌&&◌, Bool, true, false, List, [], ◌∷◌, codes, length, slice_index_or, Option, Some, None}
+use Rattle.std.specs.Prelude.{◌≡◌, ℕ, ◌<◌, ◌&&◌, Bool, true, false, List, [], ◌∷◌, codes, length, slice_index_or, Option, Some, None, Result, Ok, Err}
+use Rattle.std.specs.List.{list_all}
 use Rattle.std.specs.Str.{bytes_eq}
 use Rattle.pj_meaning.specs.Tree as tree
 use Rattle.pj_meaning.specs.Tree.{Text}
 use Rattle.pj_tree.specs.Reads.{exprs_of}
 use Rattle.pj_plain.specs.Names.{is_among}
-use Rattle.pj_plain.specs.Plain.{is_operator, plain_expr}
+use Rattle.pj_plain.specs.Plain.{is_int64, is_operator, names_of, plain_block, plain_body, plain_expr}
 use Rattle.pj_plain.specs.Trees.{ExprFits, expr_of, symbol_of}
 use Rattle.pj_plain.specs.declared.tree.Expr.{Expr}
 use Rattle.pj_plain.specs.declared.tree.Operator.{Operator}
+use Rattle.pj_plain.specs.declared.fault.Refusal.{Refusal}
+use Rattle.pj_plain.specs.declared.fault.Refusal.TheVariants.{NotOfForm, NoMemory}
 
 pub record PlacedAt (names : List Text) (word : Text) (place : ℕ) : Type 0 where
   pub among : is_among word names ≡ true
@@ -50,3 +53,26 @@ pub record PlainPair (names : List Text) (op : Operator) (es : List tree.Expr) (
 abbrev pub FoundPair : List Text → Operator → List tree.Expr → Option Expr → Type 0
 FoundPair names op es (Some p) = PlainPair names op es p
 FoundPair names op es None = plain_two names es ≡ false
+
+-- ---- parameters, bodies and definitions: what is found, or that it isn't plain, unless memory ran out
+
+abbrev pub IfPlain : {X : Type 0} → Type 0 → (X → Type 0) → Result X Refusal → Type 0
+IfPlain other P (Ok x) = P x
+IfPlain other P (Err NotOfForm) = other
+IfPlain other P (Err NoMemory) = Unit {0}
+
+abbrev pub all_int64 : List tree.Param → Bool
+all_int64 params = list_all (λ p. is_int64 p.declared) params
+
+-- the names of parameters that are all Int64
+abbrev pub FoundParams : List tree.Param → List Text → Type 0
+FoundParams params names = (names ≡ names_of params) × (all_int64 params ≡ true)
+
+abbrev pub plain_statement : Expr → List Text → tree.Block
+plain_statement p names = tree.step (tree.Value (expr_of names p)) tree.end
+
+abbrev pub FoundBlock : List Text → tree.Block → Expr → Type 0
+FoundBlock names b p = (plain_block names b ≡ true) × (ExprFits (length names) p × (b ≡ plain_statement p names))
+
+abbrev pub FoundBody : List Text → tree.Body → Expr → Type 0
+FoundBody names b p = (plain_body names b ≡ true) × (ExprFits (length names) p × (b ≡ tree.body names [] (plain_statement p names)))

@@ -3,3 +3,4 @@ pub mod Trees
 pub mod Plain
 pub mod Held
 pub mod Found
+pub mod Views

@@ -2,6 +2,9 @@
 #![tactic(auto)]
 
 pub mod expression;
+pub mod fault;
+pub mod items;
+pub mod scope;
 pub mod tree;
 
 pub use tree::{Definition, Expr, Item, Operator, Script};
