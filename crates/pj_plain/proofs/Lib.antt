@@ -2,3 +2,4 @@ pub mod NamePlaces
 pub mod Pairs
 pub mod Scopes
 pub mod Lists
+pub mod Defined

@@ -1,14 +1,15 @@
 -- What is found plain, and what isn't.
-use Rattle.std.specs.Prelude.{◌≡◌, ℕ, ◌<◌, ◌&&◌, Bool, true, false, List, [], ◌∷◌, codes, length, slice_index_or, Option, Some, None, Result, Ok, Err}
+use Rattle.std.specs.Prelude.{◌≡◌, ℕ, ℤ, ◌<◌, ◌≤◌, ◌&&◌, Bool, true, false, List, [], ◌∷◌, codes, length, slice_index_or, Option, Some, None, Result, Ok, Err}
 use Rattle.std.specs.List.{list_all}
 use Rattle.std.specs.Str.{bytes_eq}
 use Rattle.pj_meaning.specs.Tree as tree
 use Rattle.pj_meaning.specs.Tree.{Text}
-use Rattle.pj_tree.specs.Reads.{exprs_of}
-use Rattle.pj_plain.specs.Names.{is_among}
-use Rattle.pj_plain.specs.Plain.{is_int64, is_operator, names_of, plain_block, plain_body, plain_expr}
-use Rattle.pj_plain.specs.Trees.{ExprFits, expr_of, symbol_of}
+use Rattle.pj_tree.specs.Reads.{Defined, define_item, exprs_of}
+use Rattle.pj_plain.specs.Names.{all_different, free_name, is_among}
+use Rattle.pj_plain.specs.Plain.{is_int64, is_operator, literals_only, names_of, plain_block, plain_body, plain_definition, plain_expr}
+use Rattle.pj_plain.specs.Trees.{ExprFits, define_tree, expr_of, literals, symbol_of}
 use Rattle.pj_plain.specs.declared.tree.Expr.{Expr}
+use Rattle.pj_plain.specs.declared.tree.Definition.{Definition}
 use Rattle.pj_plain.specs.declared.tree.Operator.{Operator}
 use Rattle.pj_plain.specs.declared.fault.Refusal.{Refusal}
 use Rattle.pj_plain.specs.declared.fault.Refusal.TheVariants.{NotOfForm, NoMemory}
@@ -76,3 +77,25 @@ FoundBlock names b p = (plain_block names b ≡ true) × (ExprFits (length names
 
 abbrev pub FoundBody : List Text → tree.Body → Expr → Type 0
 FoundBody names b p = (plain_body names b ≡ true) × (ExprFits (length names) p × (b ≡ tree.body names [] (plain_statement p names)))
+
+-- the body that is held, or the one that counts where there is none
+abbrev pub no_body : tree.Body
+no_body = tree.body [] [] tree.end
+
+abbrev pub defined_plain : Defined → Bool
+defined_plain d = plain_definition d.home d.fun d.params d.code
+
+pub record FoundDefinition (d : Defined) (p : Definition) : Type 0 where
+  pub plain : defined_plain d ≡ true
+  pub free : free_name p.name ≡ true
+  pub few : length p.parameters.items ≤ 16
+  pub different : all_different p.parameters.items ≡ true
+  pub fits : ExprFits (length p.parameters.items) p.body
+  pub same : define_tree p.name p.parameters.items (expr_of p.parameters.items p.body) ≡ define_item d
+
+-- what a call of `println` prints
+abbrev pub println_of : tree.Expr → tree.Stmt
+println_of e = tree.Value (tree.Call [] (codes "println") (tree.also e tree.none))
+
+abbrev pub FoundLiterals : tree.Exprs → List ℤ → Type 0
+FoundLiterals es zs = (literals_only es ≡ true) × (es ≡ literals zs)

@@ -74,13 +74,15 @@ abbrev pub plain_show : Known → Stmt → Bool
 plain_show known (Value (Call m f es)) = is_empty m && (bytes_eq f (codes "println") && plain_call known es)
 plain_show known s = false
 
--- A definition whose name is new and free, and whose parameters are few and different and all Int64; or such a call,
--- whose value is printed.
+-- a definition whose name is free, and whose parameters are few and different and all Int64
+abbrev pub plain_definition : Text → Text → List Param → Body → Bool
+plain_definition m f params b =
+    is_empty m && (free_name f && (nat_le (length params) 16
+    && (list_all (λ p. is_int64 p.declared) params && (all_different (names_of params) && plain_body (names_of params) b))))
+
+-- Such a definition of a new name; or a call of a name that is known, whose value is printed.
 abbrev pub plain_item : Known → TopItem → Bool
-plain_item known (Def m f params b) =
-    is_empty m && (is_none (count_of f known) && (free_name f
-    && (nat_le (length params) 16 && (all_different (names_of params)
-    && (list_all (λ p. is_int64 p.declared) params && plain_body (names_of params) b)))))
+plain_item known (Def m f params b) = is_none (count_of f known) && plain_definition m f params b
 plain_item known (Run s) = plain_show known s
 plain_item known item = false
 

@@ -1,6 +1,7 @@
 //! Plain scripts: definitions of functions of whole numbers, and calls of them that are printed.
 #![tactic(auto)]
 
+pub mod define;
 pub mod expression;
 pub mod fault;
 pub mod items;
