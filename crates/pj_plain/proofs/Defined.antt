@@ -11,17 +11,14 @@ use Rattle.pj_tree.specs.declared.tree.Param.{Param}
 use Rattle.pj_plain.specs.Held.{no_strings}
 use Rattle.pj_plain.specs.Found.{all_int64, FoundBody, FoundDefinition, FoundParams, defined_plain}
 use Rattle.pj_plain.specs.Names.{all_different, free_name}
+use Rattle.pj_plain.proofs.Bools.{both_true}
 use Rattle.pj_plain.specs.Plain.{is_empty, is_int64, names_of}
 use Rattle.pj_plain.specs.Trees.{expr_of, int_param, define_tree}
 use Rattle.pj_plain.specs.declared.tree.Definition.{Definition}
 
-empty_is : (t : Text) → is_empty t ≡ true → t ≡ []
+pub empty_is : (t : Text) → is_empty t ≡ true → t ≡ []
 empty_is [] h = refl
 empty_is (b ∷ bs) h = absurd (grind (arith, h))
-
-both_true : (a b : Bool) → (a && b) ≡ true → (a ≡ true) × (b ≡ true)
-both_true true b h = (refl, h)
-both_true false b h = absurd (grind (arith, h))
 
 type_is : (t : tree.TypeRef) → is_int64 t ≡ true → record { home = []; name = codes "Int64" } ≡ t
 type_is t h =
@@ -44,10 +41,10 @@ found d p home free few params different code name = record {
   different = different;
   fits = code.1.0;
   same =
-    ap (λ n. define_tree n p.parameters.items (expr_of p.parameters.items p.body)) name
-    ∙ (ap (λ qs. tree.Def [] d.fun qs (tree.body p.parameters.items [] (tree.step (tree.Value (expr_of p.parameters.items p.body)) tree.end))) (ap (map int_param) params.0 ∙ params_are d.params params.1)
-    ∙ (ap (λ b. tree.Def [] d.fun d.params b) (sym code.1.1)
-    ∙ ap (λ m. tree.Def m d.fun d.params d.code) (sym (empty_is d.home home))));
+      ap (λ n. define_tree n p.parameters.items (expr_of p.parameters.items p.body)) name
+      ∙ (ap (λ qs. tree.Def [] d.fun qs (tree.body p.parameters.items [] (tree.step (tree.Value (expr_of p.parameters.items p.body)) tree.end))) (ap (map int_param) params.0 ∙ params_are d.params params.1)
+      ∙ (ap (λ b. tree.Def [] d.fun d.params b) (sym code.1.1)
+      ∙ ap (λ m. tree.Def m d.fun d.params d.code) (sym (empty_is d.home home))));
 }
 
 pub empty_at : (t : Text) → is_empty t ≡ nat_eq (length t) 0

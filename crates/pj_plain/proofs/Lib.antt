@@ -3,3 +3,5 @@ pub mod Pairs
 pub mod Scopes
 pub mod Lists
 pub mod Defined
+pub mod Calls
+pub mod Bools

@@ -13,11 +13,8 @@ use Rattle.pj_plain.specs.declared.fault.Refusal.TheVariants.{NotOfForm, NoMemor
 use Rattle.pj_plain.specs.declared.tree.Expr.{Expr}
 use Rattle.pj_plain.specs.Found.{FoundBlock, FoundBody, IfPlain, all_int64}
 use Rattle.pj_plain.specs.Held.{held_text, no_strings}
+use Rattle.pj_plain.proofs.Bools.{both_true}
 use Rattle.pj_plain.specs.Plain.{is_int64, names_of, plain_block, plain_body, same_texts}
-
-both_true : (a b : Bool) → (a && b) ≡ true → (a ≡ true) × (b ≡ true)
-both_true true b h = (refl, h)
-both_true false b h = absurd (grind (arith, h))
 
 pub all_at : (params : List Param) → all_int64 (params_of no_strings params) ≡ list_all (λ p. is_int64 (type_of no_strings p.declared)) params
 all_at params = list_all-map (λ p. is_int64 p.declared) (param_of no_strings) params

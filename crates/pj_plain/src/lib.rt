@@ -6,6 +6,7 @@ pub mod expression;
 pub mod fault;
 pub mod items;
 pub mod scope;
+pub mod show;
 pub mod tree;
 
 pub use tree::{Definition, Expr, Item, Operator, Script};
