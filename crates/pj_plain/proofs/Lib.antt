@@ -5,3 +5,4 @@ pub mod Lists
 pub mod Defined
 pub mod Calls
 pub mod Bools
+pub mod Shown

@@ -6,8 +6,9 @@ use Rattle.pj_meaning.specs.Tree as tree
 use Rattle.pj_meaning.specs.Tree.{Text}
 use Rattle.pj_tree.specs.Reads.{Defined, define_item, exprs_of}
 use Rattle.pj_plain.specs.Names.{all_different, free_name, is_among}
-use Rattle.pj_plain.specs.Plain.{is_int64, is_operator, literals_only, names_of, plain_block, plain_body, plain_definition, plain_expr}
-use Rattle.pj_plain.specs.Trees.{ExprFits, define_tree, expr_of, literals, symbol_of}
+use Rattle.pj_plain.specs.Plain.{is_int64, is_operator, names_of, plain_block, plain_body, plain_definition, plain_expr, plain_show}
+use Rattle.pj_plain.specs.Trees.{ExprFits, FormedItem, Known, define_tree, expr_of, item_of, symbol_of}
+use Rattle.pj_plain.specs.declared.tree.Item.{Item}
 use Rattle.pj_plain.specs.declared.tree.Expr.{Expr}
 use Rattle.pj_plain.specs.declared.tree.Definition.{Definition}
 use Rattle.pj_plain.specs.declared.tree.Operator.{Operator}
@@ -97,5 +98,5 @@ pub record FoundDefinition (d : Defined) (p : Definition) : Type 0 where
 abbrev pub println_of : tree.Expr → tree.Stmt
 println_of e = tree.Value (tree.Call [] (codes "println") (tree.also e tree.none))
 
-abbrev pub FoundLiterals : tree.Exprs → List ℤ → Type 0
-FoundLiterals es zs = (literals_only es ≡ true) × (es ≡ literals zs)
+abbrev pub FoundShow : Known → tree.Stmt → Item → Type 0
+FoundShow known s item = (plain_show known s ≡ true) × (FormedItem known item × (item_of item ≡ tree.Run s))

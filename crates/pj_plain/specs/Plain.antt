@@ -52,10 +52,13 @@ is_int64 t = is_empty t.home && bytes_eq t.name (codes "Int64")
 abbrev pub names_of : List Param → List Text
 names_of params = map (λ p. p.name) params
 
+abbrev pub is_literal : Expr → Bool
+is_literal (Int z) = true
+is_literal e = false
+
 abbrev pub literals_only : Exprs → Bool
 literals_only none = true
-literals_only (also (Int z) es) = literals_only es
-literals_only (also e es) = false
+literals_only (also e es) = is_literal e && literals_only es
 
 abbrev pub how_many : Exprs → ℕ
 how_many none = zero
