@@ -6,3 +6,4 @@ pub mod Defined
 pub mod Calls
 pub mod Bools
 pub mod Shown
+pub mod ItemRules

@@ -1,14 +1,15 @@
 -- What is found plain, and what isn't.
-use Rattle.std.specs.Prelude.{◌≡◌, ℕ, ℤ, ◌<◌, ◌≤◌, ◌&&◌, Bool, true, false, List, [], ◌∷◌, codes, length, slice_index_or, Option, Some, None, Result, Ok, Err}
+use Rattle.std.specs.Prelude.{◌≡◌, ℕ, ℤ, ◌<◌, ◌≤◌, ◌&&◌, Bool, true, false, List, [], ◌∷◌, codes, length, map, slice_index_or, Option, Some, None, Result, Ok, Err}
 use Rattle.std.specs.List.{list_all}
 use Rattle.std.specs.Str.{bytes_eq}
 use Rattle.pj_meaning.specs.Tree as tree
 use Rattle.pj_meaning.specs.Tree.{Text}
 use Rattle.pj_tree.specs.Reads.{Defined, define_item, exprs_of}
 use Rattle.pj_plain.specs.Names.{all_different, free_name, is_among}
-use Rattle.pj_plain.specs.Plain.{is_int64, is_operator, names_of, plain_block, plain_body, plain_definition, plain_expr, plain_show}
-use Rattle.pj_plain.specs.Trees.{ExprFits, FormedItem, Known, define_tree, expr_of, item_of, symbol_of}
+use Rattle.pj_plain.specs.Plain.{is_int64, is_operator, names_of, plain_block, plain_body, plain_definition, plain_expr, plain_item, plain_items, plain_show, known_behind}
+use Rattle.pj_plain.specs.Trees.{ExprFits, Formed, FormedItem, Known, known_after, define_tree, expr_of, item_of, symbol_of}
 use Rattle.pj_plain.specs.declared.tree.Item.{Item}
+use Rattle.pj_plain.specs.declared.tree.Script.{Script}
 use Rattle.pj_plain.specs.declared.tree.Expr.{Expr}
 use Rattle.pj_plain.specs.declared.tree.Definition.{Definition}
 use Rattle.pj_plain.specs.declared.tree.Operator.{Operator}
@@ -100,3 +101,24 @@ println_of e = tree.Value (tree.Call [] (codes "println") (tree.also e tree.none
 
 abbrev pub FoundShow : Known → tree.Stmt → Item → Type 0
 FoundShow known s item = (plain_show known s ≡ true) × (FormedItem known item × (item_of item ≡ tree.Run s))
+
+-- the names that are known behind items
+abbrev pub known_all : Known → List Item → Known
+known_all known [] = known
+known_all known (x ∷ xs) = known_all (known_after known x) xs
+
+pub record FoundItem (known : Known) (m : tree.TopItem) (x : Item) : Type 0 where
+  pub plain : plain_item known m ≡ true
+  pub formed : FormedItem known x
+  pub same : item_of x ≡ m
+  pub behind : known_behind known m ≡ known_after known x
+
+pub record FoundItems (ms : List tree.TopItem) (xs : List Item) : Type 0 where
+  pub plain : plain_items [] ms ≡ true
+  pub formed : Formed [] xs
+  pub same : map item_of xs ≡ ms
+
+-- the script, or that it isn't plain
+abbrev pub FoundScript : List tree.TopItem → Option Script → Type 0
+FoundScript ms (Some t) = FoundItems ms t.items.items
+FoundScript ms None = plain_items [] ms ≡ false

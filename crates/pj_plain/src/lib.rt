@@ -6,6 +6,7 @@ pub mod expression;
 pub mod fault;
 pub mod items;
 pub mod scope;
+pub mod script;
 pub mod show;
 pub mod tree;
 
