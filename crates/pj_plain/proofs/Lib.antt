@@ -7,3 +7,4 @@ pub mod Calls
 pub mod Bools
 pub mod Shown
 pub mod ItemRules
+pub mod Rest

@@ -44,3 +44,26 @@ fn item(alloc: Global, scope: &mut Scope, item: &TopItem) -> Result<Item, Refusa
         TopItem::Const { .. } | TopItem::Directive { .. } => Err(Refusal::NotOfForm),
     }
 }
+
+/// The items of a script, if all are plain.
+fn items(alloc: Global, all: &[TopItem]) -> Result<Vec<Item>, Refusal>
+    ensures { IfPlain (plain_items [] (map held_item all.now) ≡ false) (λ xs. FoundItems (map held_item all.now) xs.items) result }
+{
+    let mut scope = Scope::new(alloc);
+    let mut found = Vec::new(alloc);
+    for one in all {
+        found.push(item(alloc, &mut scope, one)?)?;
+    }
+    Ok(found)
+}
+
+/// The plain script that a script is, or None where it isn't plain.
+pub fn plain_script(alloc: Global, tree: &ScriptTree) -> Result<Option<Script>, NoMemory>
+    ensures { IfOk result (FoundScript (held_script tree.now)) }
+{
+    match items(alloc, tree.items.as_slice()) {
+        Ok(items) => Ok(Some(Script { items })),
+        Err(Refusal::NotOfForm) => Ok(None),
+        Err(Refusal::NoMemory) => Err(NoMemory),
+    }
+}
