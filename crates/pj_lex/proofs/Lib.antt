@@ -1,8 +1,13 @@
 pub mod Determined
 pub mod DigitsRise
 pub mod Encoding
+pub mod LongestSign
 pub mod Loop
+pub mod NestedLaw
+pub mod Pairs
+pub mod PieceSpells
 pub mod Runs
 pub mod SignFits
+pub mod SpelledLaw
 pub mod Whole
 pub mod Widths

@@ -11,3 +11,5 @@ pub mod Signs
 pub mod Sizes
 pub mod Strings
 pub mod TextRows
+pub mod Spelled
+pub mod Nested

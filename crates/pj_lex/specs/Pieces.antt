@@ -36,7 +36,7 @@ long_comment cs None = None
 -- behind `#`: a comment
 abbrev pub comment : List ℕ → Option Piece
 comment [] = Some (passed 1)
-comment (c ∷ cs) = if c == 61 then long_comment cs (past_comments 1 32 cs) else Some (passed (1 + up_to (c ∷ cs) (past_line (c ∷ cs))))
+comment (c ∷ cs) = if c == 61 then long_comment cs (past_comments 1 cs) else Some (passed (1 + up_to (c ∷ cs) (past_line (c ∷ cs))))
 
 -- behind `"`: a string
 abbrev pub string : List ℕ → Option (List ℕ × List ℕ) → Option Piece
@@ -67,7 +67,7 @@ abbrev pub signed : Option Sign → Option Piece
 signed (Some sign) = Some (is_token (kinds.Sign sign) (length (sign_text sign)))
 signed None = None
 
--- a `-` belongs to the number behind it where no operand ends before it
+-- a `-`, which is 45, belongs to the number behind it where no operand ends before it
 abbrev pub is_minus_of_literal : Before → ℕ → List ℕ → Bool
 is_minus_of_literal before c cs = (c == 45) && not before.operand && first_is is_digit cs
 
@@ -79,7 +79,7 @@ plain_piece before c cs =
     else if starts_name c then word (c ∷ cs) (past_name cs)
     else signed (sign_at (c ∷ cs))
 
--- the piece at the front, if there is one
+-- The piece at the front, if there is one. The characters are a line end, `;`, `#`, `"` and `@`.
 unfoldable pub next_piece : Before → List ℕ → Option Piece
 next_piece before [] = None
 next_piece before (c ∷ cs) =

@@ -11,7 +11,7 @@ abbrev pub escaped : ℕ → ℕ
 escaped c = if c == 110 then 10 else if c == 116 then 9 else c
 
 -- The string's value, and what follows its closing `"`. The bytes of its value so far are given, and whether a `\` stands
--- directly before. No string has a line end or a `$` without a `\`.
+-- directly before. No string has a line end or a `$` without a `\`; 34 is `"`, 36 `$` and 92 `\`.
 unfoldable pub quoted : List ℕ → Bool → List ℕ → Option (List ℕ × List ℕ)
 quoted value behind_escape [] = None
 quoted value true (c ∷ cs) = if is_escape c then quoted (value ++ encode_utf8 (escaped c)) false cs else None

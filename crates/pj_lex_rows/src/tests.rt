@@ -126,18 +126,10 @@ const SIGNS: [&str; 27] = [
 /// Behind each of these a line ends.
 const ENDS: [&str; 8] = [")", "x", "1", "\"\"", "end", "@eval", ";", "true"];
 
-/// A token's kind as the rows write it.
-fn push_kind(alloc: Global, told: &mut String, kind: &TokenKind) -> Result<(), AllocError> {
-    match kind {
-        TokenKind::Name(text) => told.push_str(text.as_str()),
-        TokenKind::Integer(value) => told.push_str(format!(in alloc; "#{value}")?.as_str()),
-        TokenKind::Str(value) => told.push_str(format!(in alloc; "${}", value.as_str())?.as_str()),
-        TokenKind::Reserved(word) => told.push_str(format!(in alloc; "'{}", word.text())?.as_str()),
-        TokenKind::Sign(sign) => push_characters(told, sign.characters()),
-        TokenKind::AtEval => told.push_str("@eval"),
-        TokenKind::Separator => told.push_str(";"),
-        TokenKind::Eof => told.push_str("eof"),
-    }
+/// Adds a text behind a mark.
+fn push_marked(told: &mut String, mark: char, text: &str) -> Result<(), AllocError> {
+    told.push(mark)?;
+    told.push_str(text)
 }
 
 fn push_characters(told: &mut String, characters: &[char]) -> Result<(), AllocError> {
@@ -147,6 +139,30 @@ fn push_characters(told: &mut String, characters: &[char]) -> Result<(), AllocEr
     Ok(())
 }
 
+/// Adds a token's kind as the rows write it.
+fn push_kind(alloc: Global, told: &mut String, kind: &TokenKind) -> Result<(), AllocError> {
+    match kind {
+        TokenKind::Name(text) => told.push_str(text.as_str()),
+        TokenKind::Integer(value) => push_marked(told, '#', value.to_string(alloc)?.as_str()),
+        TokenKind::Str(value) => push_marked(told, '$', value.as_str()),
+        TokenKind::Reserved(word) => push_marked(told, '\'', word.text()),
+        TokenKind::Sign(sign) => push_characters(told, sign.characters()),
+        TokenKind::AtEval => told.push_str("@eval"),
+        TokenKind::Separator => told.push(';'),
+        TokenKind::Eof => told.push_str("eof"),
+    }
+}
+
+/// Adds a token as the rows write it.
+fn push_token(alloc: Global, told: &mut String, token: &Token) -> Result<(), AllocError> {
+    if token.blank {
+        told.push('~')?;
+    }
+    push_kind(alloc, told, &token.what)?;
+    push_marked(told, '@', token.start.to_string(alloc)?.as_str())?;
+    push_marked(told, '-', token.end.to_string(alloc)?.as_str())
+}
+
 /// Tokens as the rows write them.
 fn told(alloc: Global, tokens: &[Token]) -> Result<String, AllocError> {
     let mut told = String::new(alloc);
@@ -154,13 +170,7 @@ fn told(alloc: Global, tokens: &[Token]) -> Result<String, AllocError> {
         if !told.is_empty() {
             told.push(' ')?;
         }
-        if token.blank {
-            told.push('~')?;
-        }
-        push_kind(alloc, &mut told, &token.what)?;
-        let start = token.start;
-        let end = token.end;
-        told.push_str(format!(in alloc; "@{start}-{end}")?.as_str())?;
+        push_token(alloc, &mut told, token)?;
     }
     Ok(told)
 }

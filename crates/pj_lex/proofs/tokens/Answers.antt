@@ -18,6 +18,10 @@ pub returns-clause-only : goal.returns-clause-only
 returns-clause-only c =
     whole.only _ _ c.in-Ok.ensures.cases.1 (c.as_slice.ensures.value ∙ c.in_ok-all.ensures ∙ ap chars c.in-Ok.ensures.cases.0) _ c.tokens_of.ensures.lexed
 
+pub returns-clause-spelled : goal.returns-clause-spelled
+returns-clause-spelled c =
+    whole.spelled _ _ c.in-Ok.ensures.cases.1 (c.as_slice.ensures.value ∙ c.in_ok-all.ensures ∙ ap chars c.in-Ok.ensures.cases.0) _ c.tokens_of.ensures.lexed
+
 pub returns-clause-cover : goal.returns-clause-cover
 returns-clause-cover c =
     whole.cover _ _ c.in-Ok.ensures.cases.1 (c.as_slice.ensures.value ∙ c.in_ok-all.ensures ∙ ap chars c.in-Ok.ensures.cases.0) _ (ap width (c.as_slice.ensures.value ∙ c.in_ok-all.ensures ∙ ap chars c.in-Ok.ensures.cases.0) ∙ width_chars c.args.bytes.now c.in-Ok.ensures.cases.1) c.tokens_of.ensures.cover

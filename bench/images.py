@@ -1,0 +1,81 @@
+#!/usr/bin/env python3
+"""Times the proved decoding of an image of the greatest length, against `sha256sum` of the same bytes.
+
+The image has as many functions as fit; a second one is damaged in its last entry. Prints the milliseconds, the megabytes
+at most, and both as ratios: of the time to that of `sha256sum`, of the memory to the bytes. It takes no words and changes
+no file of the repository. Ends with 1 where a limit is missed. The program is built by `rt ci`, or by `rt run` in
+crates/pj_image_speed.
+"""
+import hashlib
+import itertools
+import os
+import string
+import subprocess
+import sys
+import tempfile
+import time
+
+TOP = os.path.dirname(os.path.dirname(os.path.abspath(__file__)))
+PROGRAM = os.path.join(TOP, "crates", "pj_image_speed", "out", "pj_image_speed")
+LONGEST = 67_108_864
+MOST_TIME = 3
+MOST_MEMORY = 8
+TURNS = 3
+
+
+def number(n):
+    return n.to_bytes(4, "little")
+
+
+def section(asked, payload):
+    return number(asked) + number(len(payload)) + payload
+
+
+def image(names, entries):
+    """An image of these functions, with this payload of its last section."""
+    strings = number(len(names)) + b"".join(number(len(n)) + n for n in names)
+    functions = number(len(names)) + b"".join(map(number, range(len(names))))
+    payloads = [number(1) + b"P" + number(0), strings, number(0), functions] + [number(0)] * 7 + [entries]
+    body = b"PJIMAGE1" + number(1) + b"".join(section(k + 1, p) for k, p in enumerate(payloads))
+    return body + hashlib.sha256(body).digest()
+
+
+def longest(entries):
+    """The image of as many functions as the greatest length has room for. Each name has five letters."""
+    room = LONGEST - len(image([], entries))
+    letters = itertools.product(string.ascii_lowercase.encode(), repeat=5)
+    return image([bytes(n) for n in itertools.islice(letters, room // 13)], entries)
+
+
+def timed(command, printed):
+    """Seconds, the most bytes of memory, and the status of a command, whose output goes to a file."""
+    start = time.monotonic()
+    child = subprocess.Popen(command, stdout=printed)
+    _, ended, usage = os.wait4(child.pid, 0)
+    return time.monotonic() - start, usage.ru_maxrss * 1024, os.waitstatus_to_exitcode(ended)
+
+
+def main():
+    if not os.access(PROGRAM, os.X_OK):
+        sys.exit("the program isn't built: run rt ci first")
+    missed = False
+    with tempfile.TemporaryDirectory() as folder:
+        file = os.path.join(folder, "P.pimg")
+        for what, entries in (("decoded", number(0)), ("refused", number(1))):
+            with open(file, "wb") as out:
+                out.write(longest(entries))
+            size = os.path.getsize(file)
+            with open(os.path.join(folder, "printed"), "w+b") as printed:
+                took, memory, status = min(timed([PROGRAM, file, "P"], printed) for _ in range(TURNS))
+                printed.seek(0)
+                answer = printed.readline().decode().strip()
+                summed = min(timed(["sha256sum", file], printed)[0] for _ in range(TURNS))
+            print(f"{size} bytes, {what}: {answer}")
+            print(f"  {took * 1000:.0f} ms, {took / summed:.1f} times sha256sum's {summed * 1000:.0f} ms")
+            print(f"  {memory / 2**20:.0f} MB, {memory / size:.1f} times the bytes")
+            missed |= status != 0 or took > MOST_TIME * summed or memory > MOST_MEMORY * size
+    if missed:
+        sys.exit("a limit is missed")
+
+
+main()

@@ -1,0 +1,15 @@
+pub mod Joined
+pub mod SeenLoop
+pub mod FitLoop
+pub mod Walking
+pub mod FrameLaws
+pub mod Founds
+pub mod SectionLaws
+pub mod Steps
+pub mod DeclaredLaws
+pub mod BodiesLaws
+pub mod EndingLaws
+pub mod FileLaws
+pub mod Decoded
+pub mod Lengths
+pub mod Fits

@@ -1,0 +1,10 @@
+pub mod File
+pub mod Fitting
+pub mod Formed
+pub mod Found
+pub mod Frames
+pub mod Names
+pub mod Pieces
+pub mod PlainTrees
+pub mod Sees
+pub mod Spelled

@@ -1,0 +1,9 @@
+pub mod Loops
+pub mod Sizes
+pub mod Texts
+pub mod Joined
+pub mod Values
+pub mod Forms
+pub mod TreeSizes
+pub mod TreeParts
+pub mod PartLaws

@@ -1,0 +1,5 @@
+pub mod Capped
+pub mod Fits
+pub mod Given
+pub mod Reading
+pub mod Spelling
