@@ -1,5 +1,5 @@
 -- A definition from its parts.
-use Rattle.std.proofs.Common.{◌≡◌, ◌∙◌, refl, sym, ap, Bool, true, false, ◌&&◌, not, nat_le, List, [], ◌∷◌, map, length, ◌≤◌, nat_eq, arith}
+use Rattle.std.proofs.Common.{◌≡◌, ◌∙◌, refl, sym, ap, true, List, [], ◌∷◌, map, length, ◌≤◌, nat_eq, arith}
 use Rattle.std.specs.Prelude.{codes}
 use Rattle.std.specs.Str.{bytes_eq}
 use Rattle.std.proofs.lemmas.Slice.Eq.{bytes_eq-Decides}
@@ -9,7 +9,7 @@ use Rattle.pj_meaning.specs.Tree.{Text}
 use Rattle.pj_tree.specs.Reads.{Defined, param_of, params_of}
 use Rattle.pj_tree.specs.declared.tree.Param.{Param}
 use Rattle.pj_plain.specs.Held.{no_strings}
-use Rattle.pj_plain.specs.Found.{all_int64, FoundBody, FoundDefinition, FoundParams, defined_plain}
+use Rattle.pj_plain.specs.Found.{all_int64, FoundBody, FoundDefinition, FoundParams}
 use Rattle.pj_plain.specs.Names.{all_different, free_name}
 use Rattle.pj_plain.proofs.Bools.{both_true}
 use Rattle.pj_plain.specs.Plain.{is_empty, is_int64, names_of}

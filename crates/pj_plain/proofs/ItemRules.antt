@@ -1,5 +1,5 @@
 -- Items, one after another.
-use Rattle.std.proofs.Common.{◌≡◌, refl, true, false, ◌&&◌, List, [], ◌∷◌, is_none}
+use Rattle.std.proofs.Common.{◌≡◌, refl, ◌&&◌, is_none}
 use Rattle.pj_tree.specs.Reads.{Defined, define_item}
 use Rattle.pj_plain.specs.Found.{defined_plain}
 use Rattle.pj_plain.specs.Plain.{plain_item}

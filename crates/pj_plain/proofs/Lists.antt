@@ -1,5 +1,5 @@
 -- Parameters and statements, one after another.
-use Rattle.std.proofs.Common.{◌≡◌, ◌∙◌, refl, ap, Bool, true, false, ◌&&◌, Result, Ok, Err, List, [], ◌∷◌, map, length, ◌≤◌, nat_eq, arith}
+use Rattle.std.proofs.Common.{◌≡◌, refl, ap, true, false, Result, Ok, Err, List, [], ◌∷◌, map, length, ◌≤◌, nat_eq, arith}
 use Rattle.std.specs.List.{list_all}
 use Rattle.std.proofs.lemmas.List.Folds.{list_all-map}
 use Rattle.pj_meaning.specs.Tree as tree

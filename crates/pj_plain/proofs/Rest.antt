@@ -1,5 +1,5 @@
 -- The items so far, and those that are left.
-use Rattle.std.proofs.Common.{◌≡◌, ◌∙◌, refl, sym, ap, true, false, List, [], ◌∷◌, ◌++◌, map, append_assoc, subst}
+use Rattle.std.proofs.Common.{◌≡◌, ◌∙◌, refl, sym, ap, false, List, [], ◌∷◌, ◌++◌, map, append_assoc, subst}
 use Rattle.std.proofs.Common.{ℕ, suc, ◌+◌, ◌<◌, drop, length, arith}
 use Rattle.std.proofs.Math.ListN.{get_or}
 use Rattle.std.proofs.Math.Seq.{drop-cons}

@@ -1,7 +1,6 @@
 -- A call whose value is printed, from its parts.
-use Rattle.std.proofs.Common.{◌≡◌, ◌∙◌, refl, sym, ap, ℕ, suc, ℤ, true, false, ◌&&◌, List, [], ◌∷◌, map, length, Option, Some, None, codes}
+use Rattle.std.proofs.Common.{◌≡◌, refl, ap, suc, ℤ, true, ◌&&◌, List, [], ◌∷◌, map, length}
 use Rattle.std.specs.List.{list_all}
-use Rattle.std.proofs.lemmas.List.Folds.{list_all-map}
 use Rattle.pj_meaning.specs.Tree as tree
 use Rattle.pj_meaning.specs.Tree.{Text, Call, Int}
 use Rattle.pj_tree.specs.Reads.{exprs_of}

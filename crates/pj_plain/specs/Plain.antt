@@ -1,8 +1,8 @@
 -- Which scripts are plain: definitions of functions of whole numbers, and calls of them that are printed.
-use Rattle.std.specs.Prelude.{ℕ, zero, suc, Bool, true, false, not, ◌&&◌, ◌||◌, List, [], ◌∷◌, ◌++◌, map, length, codes, nat_le, ◌==◌, Option, Some, None, is_none, if◌then◌else◌}
-use Rattle.std.specs.List.{list_any, list_all}
+use Rattle.std.specs.Prelude.{ℕ, zero, suc, Bool, true, false, ◌&&◌, ◌||◌, List, [], ◌∷◌, ◌++◌, map, length, codes, nat_le, ◌==◌, Option, Some, None, is_none}
+use Rattle.std.specs.List.{list_all}
 use Rattle.std.specs.Str.{bytes_eq}
-use Rattle.pj_meaning.specs.Tree.{Text, TypeRef, Param, Expr, Exprs, Nothing, False, True, Int, Str, Local, Global, Field, Call, CallLocal, Latest, And, Or, Cond, Same, Intrin, none, also, Stmt, Value, SetLocal, SetGlobal, SetField, If, While, For, Break, Continue, Return, Eval, Block, end, step, Body, body, TopItem, Using, AbstractDef, StructDef, Def, Declare, Const, Directive, Run}
+use Rattle.pj_meaning.specs.Tree.{Text, TypeRef, Param, Expr, Exprs, Int, Local, Call, none, also, Stmt, Value, Block, end, step, Body, body, TopItem, Def, Run}
 use Rattle.pj_plain.specs.Names.{all_different, free_name, is_among}
 use Rattle.pj_plain.specs.Trees.{Known, count_of}
 

@@ -1,6 +1,5 @@
-use Rattle.std.proofs.Common.{rules, ◌≡◌, ◌∙◌, sym, ap, subst, length, ◌≤◌, arith, map}
-use Rattle.std.proofs.lemmas.List.{length-map}
-use Rattle.pj_tree.specs.Reads.{as_body, part_of, param_of, params_of}
+use Rattle.std.proofs.Common.{rules, ◌∙◌, sym, subst}
+use Rattle.pj_tree.specs.Reads.{as_body, part_of, params_of}
 use Rattle.pj_tree.proofs.TreeReads.{def_of-DefTree}
 use Rattle.pj_plain.specs.declared.tree.Definition.{Definition}
 use Rattle.pj_plain.specs.Found.{FoundDefinition}

@@ -1,4 +1,4 @@
-use Rattle.std.proofs.Common.{◌≡◌, refl, [], map, sym, ◌∙◌, ap}
+use Rattle.std.proofs.Common.{refl, map, sym, ◌∙◌, ap}
 use Rattle.pj_tree.specs.Reads.{block_of, stmt_of, texts_of}
 use Rattle.pj_tree.proofs.TreeReads.{body_of-Body}
 use Rattle.pj_plain.specs.Held.{no_parts, no_strings}

@@ -1,4 +1,4 @@
-use Rattle.std.proofs.Common.{◌≡◌, map, drop}
+use Rattle.std.proofs.Common.{map, drop}
 use Rattle.pj_plain.specs.Held.{held_item}
 use Rattle.pj_plain.specs.Views.{IsWhole, scope_known}
 use Rattle.pj_plain.proofs.Rest.{UpTo}
