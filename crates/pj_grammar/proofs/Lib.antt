@@ -6,6 +6,7 @@ pub mod Determined
 pub mod Directives
 pub mod Evaluations
 pub mod Expressions
+pub mod Faulting
 pub mod Fielding
 pub mod Follow
 pub mod Holes
