@@ -2,10 +2,15 @@ pub mod Adding
 pub mod Begin
 pub mod Blocks
 pub mod Computing
+pub mod Determined
+pub mod Directives
 pub mod Evaluations
 pub mod Expressions
+pub mod Faulting
+pub mod Fielding
 pub mod Follow
 pub mod Holes
+pub mod Joining
 pub mod Levels
 pub mod Nesting
 pub mod Parameters
@@ -13,4 +18,6 @@ pub mod Payloads
 pub mod Reading
 pub mod Statements
 pub mod Stepping
+pub mod Uses
+pub mod Whole
 pub mod Written

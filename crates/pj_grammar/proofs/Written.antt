@@ -77,7 +77,7 @@ unfolding run step
 from-eval-name modules m k ts more s apart =
     rw s.are (ap (run modules (s.rest ++ more)) (with-module modules m k (place s.first) s.first.what (reads-not (place s.first) s.first.what s.begins (ap opens_directly (sym s.are) ∙ apart))))
 
-step-at-eval : (modules : Modules) (p : Place) (k : List Frame) → step modules (state modes.Line k) (token p kinds.AtEval) ≡ at modes.Payload (frames.Payload None false ∷ k)
+pub step-at-eval : (modules : Modules) (p : Place) (k : List Frame) → step modules (state modes.Line k) (token p kinds.AtEval) ≡ at modes.Payload (frames.Payload None false ∷ k)
 unfolding step
 step-at-eval modules p k = refl
 

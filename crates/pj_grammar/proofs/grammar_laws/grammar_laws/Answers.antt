@@ -1,7 +1,10 @@
 use Rattle.std.specs.Prelude.{refl}
+use Rattle.pj_grammar.specs.Theorems.{Complete}
+use Rattle.pj_grammar.proofs.Determined.{none-begins, one-tree}
 use Rattle.pj_grammar.proofs.Expressions.{reads}
 use Rattle.pj_grammar.proofs.Holes.{line-ends-here}
 use Rattle.pj_grammar.proofs.Nesting.{need-nesting}
+use Rattle.pj_grammar.proofs.Whole.{whole}
 use Rattle.pj_grammar.proofs.Written.{statement}
 use Rattle.pj_grammar.proofs.grammar_laws.grammar_laws.Goals as goal
 
@@ -11,6 +14,18 @@ returns-clause-complete_expressions c = λ modules l ts e d k adm.
 
 pub returns-clause-complete_statements : goal.returns-clause-complete_statements
 returns-clause-complete_statements c = λ modules ts s d k takes t rest ends. statement refl d k takes t rest (line-ends-here t.what ends)
+
+each-text : Complete
+each-text modules kind ts tree nesting d = whole refl d
+
+pub returns-clause-complete : goal.returns-clause-complete
+returns-clause-complete c = each-text
+
+pub returns-clause-one_tree : goal.returns-clause-one_tree
+returns-clause-one_tree c = one-tree each-text
+
+pub returns-clause-none_begins : goal.returns-clause-none_begins
+returns-clause-none_begins c = none-begins each-text
 
 pub returns-clause-need_is_nesting : goal.returns-clause-need_is_nesting
 returns-clause-need_is_nesting c = λ s tree nesting. need-nesting s.mode s.frames tree nesting
