@@ -2,8 +2,6 @@
 #![tactic(auto)]
 
 #[cfg(test)]
-mod forest;
-#[cfg(test)]
 mod outlines;
 #[cfg(test)]
 mod tests;

@@ -1,8 +1,6 @@
-use pj_base::{KTree, MAIN, NoMemory, Target, Text};
+use pj_base::{MAIN, NoMemory, Target, Text};
 use pj_outline::outline;
-use pj_tree::{
-    Body, DefTree, Expr, Part, Payload, Stmt, Sym, TreeList, TreeNode, Trees, copy_tree,
-};
+use pj_tree::{Body, DefTree, Expr, Part, Payload, Stmt, Sym, TreeList, TreeNode, Trees};
 use sqlite_items::{Boxed, Items};
 use std::alloc::Global;
 use std::test::Fail;
@@ -65,37 +63,55 @@ Body ()\n  Eval\n    tree 5\n\
 Value\n  Int 2\n\
 Value\n  Int 3\n";
 
+/// One tree and the nested one, as trees of the run itself.
+fn filled(alloc: Global) -> Result<Trees, NoMemory> {
+    let mut trees = Trees::new(alloc);
+    let _first = trees.add(alloc, MAIN, &value(9))?;
+    let item = nested(alloc)?;
+    let _second = trees.add(alloc, MAIN, &item)?;
+    Ok(trees)
+}
+
 #[test]
 fn trees_are_numbered_in_order(rt: HostRuntime) -> Result<(), Fail> {
     let alloc = rt.alloc();
-    let mut trees = Trees::new(alloc);
-    let first = trees.add(alloc, MAIN, &value(9))?;
-    let second = trees.add(alloc, MAIN, &nested(alloc)?)?;
-    assert!(rt; first.ordinal == 0 && second.ordinal == 1 && second.image == MAIN);
+    let trees = filled(alloc)?;
     let all = printed(alloc, &trees, MAIN)?;
     assert!(rt; all.as_str() == LAID_OUT, "{all}");
-    assert!(rt; trees.tree(Target::new(MAIN, 6)).is_some());
-    assert!(rt; trees.tree(Target::new(MAIN, 7)).is_none());
     Ok(())
 }
 
 #[test]
-fn images_have_their_own_trees(rt: HostRuntime) -> Result<(), Fail> {
-    let alloc = rt.alloc();
-    let mut trees = Trees::new(alloc);
+fn trees_are_found_by_their_places(rt: HostRuntime) -> Result<(), Fail> {
+    let trees = filled(rt.alloc())?;
+    for (image, place, found) in [
+        (MAIN, 0, true),
+        (MAIN, 6, true),
+        (MAIN, 7, false),
+        (1, 0, false),
+    ] {
+        let tree = trees.tree(Target::new(image, place));
+        assert!(rt; tree.is_some() == found, "place {place} of {image}");
+    }
+    Ok(())
+}
+
+/// An image with one tree.
+fn one_image(alloc: Global) -> Result<Trees, NoMemory> {
     let mut list = TreeList::new(alloc);
-    list.push(copy_tree(alloc, &value(5))?)?;
-    trees.reserve()?;
+    list.push(value(5))?;
+    let mut trees = Trees::new(alloc);
     trees.reserve()?;
     trees.add_image(1, list);
-    trees.add_image(2, TreeList::new(alloc));
-    let added = trees.add(alloc, 2, &nested(alloc)?)?;
-    assert!(rt; added.ordinal == 0);
-    for (image, count) in [(0, 0), (1, 1), (2, 6), (3, 0), (MAIN, 0)] {
+    Ok(trees)
+}
+
+#[test]
+fn images_have_their_own_trees(rt: HostRuntime) -> Result<(), Fail> {
+    let trees = one_image(rt.alloc())?;
+    for (image, count) in [(0, 0), (1, 1), (2, 0), (MAIN, 0)] {
         let found = trees.list(image).len();
         assert!(rt; found == count, "image {image} has {found}");
-        let last: Target<KTree> = Target::new(image, count as u64);
-        assert!(rt; trees.tree(last).is_none(), "image {image}");
     }
     Ok(())
 }
