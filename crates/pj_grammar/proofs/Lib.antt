@@ -1,5 +1,6 @@
 pub mod Adding
 pub mod Begin
+pub mod Begun
 pub mod Blocks
 pub mod Computing
 pub mod Evaluations
@@ -11,6 +12,8 @@ pub mod Nesting
 pub mod Parameters
 pub mod Payloads
 pub mod Reading
+pub mod Settling
+pub mod Standing
 pub mod Statements
 pub mod Stepping
 pub mod Written
