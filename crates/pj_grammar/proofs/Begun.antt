@@ -49,8 +49,8 @@ use Rattle.pj_grammar.specs.Tokens.{name, Place, separator, sign, spot, token, w
 -- arguments that are names, with or without modules
 pub data PathsBegun (modules : Modules) : List Token → List Path → Type 0 where
   no_paths : PathsBegun modules [] []
-  then_path : {ts us : List Token} {ps : List Path} {f : Path} (p : Place) → PathsBegun modules ts ps → Callee modules us f
-      → PathsBegun modules (ts ++ (us ++ sign p signs.Comma ∷ [])) (ps ++ f ∷ [])
+  then_path : {ts us : List Token} {ps all : List Path} {f : Path} (p : Place) → PathsBegun modules ts ps → Callee modules us f → all ≡ ps ++ f ∷ []
+      → PathsBegun modules (ts ++ (us ++ sign p signs.Comma ∷ [])) all
 
 pub data ArgumentsBegun (modules : Modules) : List Token → Arguments → Type 0 where
   no_argument : ArgumentsBegun modules [] no_arguments
@@ -69,8 +69,8 @@ pub data ParametersBegun (modules : Modules) : List Token → List Param → Typ
 -- the types of a directive
 pub data TypesBegun (modules : Modules) : List Token → List Path → Type 0 where
   no_type : TypesBegun modules [] []
-  then_type : {ts us : List Token} {xs : List Path} {t : Path} (p : Place) → TypesBegun modules ts xs → Named modules us t
-      → TypesBegun modules (ts ++ (us ++ sign p signs.Comma ∷ [])) (xs ++ t ∷ [])
+  then_type : {ts us : List Token} {xs all : List Path} {t : Path} (p : Place) → TypesBegun modules ts xs → Named modules us t → all ≡ xs ++ t ∷ []
+      → TypesBegun modules (ts ++ (us ++ sign p signs.Comma ∷ [])) all
 
 pub data FieldsBegun (modules : Modules) : List Token → List Param → Type 0 where
   no_field_begun : FieldsBegun modules [] []
@@ -194,8 +194,8 @@ pub data Begun (modules : Modules) (kind : Kind) : Frame → List Frame → List
   else_begun : {ts us : List Token} {c a : Node} {k : List Frame} (p q : Place) → admits k levels.Conditional ≡ true
       → Reads modules levels.Disjunction ts c → Reads modules levels.Conditional us a
       → Begun modules kind (frames.Else c a) k (ts ++ sign p signs.Question ∷ (us ++ sign q signs.Colon ∷ []))
-  group_begun : {k : List Frame} (p : Place) → admits k levels.Postfix ≡ true
-      → Begun modules kind (frames.Group p.start (opens_types k)) k (sign p signs.LeftParen ∷ [])
+  group_begun : {k : List Frame} {types : Bool} (p : Place) → admits k levels.Postfix ≡ true → opens_types k ≡ types
+      → Begun modules kind (frames.Group p.start types) k (sign p signs.LeftParen ∷ [])
   call_begun : {ts : List Token} {f : Path} {g : Given} {k : List Frame} (us : List Token) → admits k levels.Postfix ≡ true → ShortBegun modules f ts
       → GivenBegun modules us g → Begun modules kind (frames.Call f g) k (ts ++ us)
   short_signature : {ts us : List Token} {f : Path} {ps : List Param} {k : List Frame} → takes_definition k ≡ true → ShortBegun modules f ts

@@ -6,9 +6,11 @@ pub mod Computing
 pub mod Evaluations
 pub mod Expressions
 pub mod Follow
+pub mod Holding
 pub mod Holes
 pub mod Levels
 pub mod Nesting
+pub mod Operating
 pub mod Parameters
 pub mod Payloads
 pub mod Reading

@@ -22,6 +22,7 @@ use Rattle.pj_grammar.specs.declared.frame.Frame.{Frame}
 use Rattle.pj_grammar.specs.declared.frame.Frame.TheVariants as frames
 use Rattle.pj_grammar.specs.declared.frame.Header.{Header}
 use Rattle.pj_grammar.specs.declared.frame.Opener.{Opener}
+use Rattle.pj_grammar.specs.declared.frame.Purpose.TheVariants as purposes
 use Rattle.pj_grammar.specs.declared.frame.Root.{Root}
 use Rattle.pj_grammar.specs.declared.frame.Root.TheVariants as roots
 use Rattle.pj_grammar.specs.declared.mode.Head.{Head}
@@ -135,8 +136,13 @@ is_path (frames.Parent h ∷ k) = true
 is_path (frames.DirectiveFun ∷ k) = true
 is_path _ = false
 
+-- where an operand may begin, with tokens before it
+abbrev pub wants_operand : List Frame → Bool
+wants_operand (frames.Hole purposes.Value ∷ k) = false
+wants_operand k = admits k levels.Unary
+
 abbrev pub stands : Mode → List Frame → Bool
-stands modes.Want k = admits k levels.Unary
+stands modes.Want k = wants_operand k
 stands modes.Arguments k = is_call k
 stands modes.Params k = is_signature k
 stands modes.PathStart k = is_path k
