@@ -38,7 +38,7 @@ use Rattle.pj_grammar.specs.Expressions.{Callee, Named, Reads}
 use Rattle.pj_grammar.specs.Frames.{admits, takes_definition, takes_directives, takes_items, takes_lines}
 use Rattle.pj_grammar.specs.Levels.{is_prefix, left_of, level_of}
 use Rattle.pj_grammar.specs.Machine.{opens_types}
-use Rattle.pj_grammar.specs.Makers.{Entry, argument_after, entry_after, line_after, no_arguments, no_entries, no_lines, run_of}
+use Rattle.pj_grammar.specs.Makers.{Entry, argument_after, entry_after, lacks, line_after, no_arguments, no_entries, no_lines, run_of}
 use Rattle.pj_grammar.specs.Modules.{Modules, is_module}
 use Rattle.pj_grammar.specs.Statements.{Assigned, Block, Parameter, Parameters, Statement, assigning, begins_bounds, begins_with_module, eval_name, opens_directly, operator_at}
 use Rattle.pj_grammar.specs.Texts.{Above, Field, Item, Kind, Names, Separators, script, «package»}
@@ -59,7 +59,7 @@ pub data ArgumentsBegun (modules : Modules) : List Token → Arguments → Type 
 
 abbrev pub GivenBegun : Modules → List Token → Given → Type 0
 GivenBegun modules ts (given.Paths ps) = PathsBegun modules ts ps
-GivenBegun modules ts (given.Mixed es) = ArgumentsBegun modules ts es
+GivenBegun modules ts (given.Mixed es) = ArgumentsBegun modules ts es × ((f : Path) → lacks f es ≡ false)
 
 pub data ParametersBegun (modules : Modules) : List Token → List Param → Type 0 where
   no_parameter : ParametersBegun modules [] []

@@ -3,12 +3,13 @@ use Rattle.std.proofs.Common.{◌≡◌, ℕ, Bool, true, false, not, List, [], 
 use Rattle.std.proofs.lemmas.List.{append_assoc}
 use Rattle.pj_lex.specs.declared.sign.Sign.TheVariants as signs
 use Rattle.pj_lex.specs.declared.token.Token.{Token}
+use Rattle.pj_syntax.specs.declared.expression.Path.{Path}
 use Rattle.pj_grammar.specs.declared.level.Level.TheVariants as levels
 use Rattle.pj_grammar.specs.declared.node.Node.{Node}
 use Rattle.pj_grammar.specs.declared.frame.Frame.{Frame}
 use Rattle.pj_grammar.specs.declared.mode.Head.{Head}
-use Rattle.pj_grammar.specs.Expressions.{Reads, call, field, has_fields, named, of_module, bare, operator, read, tighter}
-use Rattle.pj_grammar.specs.Frames.{is_value, node}
+use Rattle.pj_grammar.specs.Expressions.{Callee, Reads, call, field, has_fields, named, of_module, bare, operator, read, tighter}
+use Rattle.pj_grammar.specs.Frames.{head_path, is_value, node}
 use Rattle.pj_grammar.specs.Makers.{call_of, lacks, paths_given}
 use Rattle.pj_grammar.specs.Modules.{Modules, is_module}
 use Rattle.pj_grammar.specs.Statements.{Holder, a_field, a_member, a_name}
@@ -38,6 +39,9 @@ has-value : (b : Bool) → (if b then false else true) ≡ true → b ≡ false
 has-value true h = cc
 has-value false h = refl
 
+some-path : {a b : Path} → Some a ≡ Some b → a ≡ b
+some-path h = cc
+
 -- An operand is an expression, but where it can only be the head of a definition.
 pub operand-reads : {modules : Modules} {h : Head} {k : List Frame} {ts : List Token} → Operand modules h k ts → is_value h ≡ true
     → Reads modules levels.Postfix ts (node h)
@@ -49,3 +53,13 @@ operand-reads {modules} (a_call {us = us} {f = f} {ps = ps} adm (short_begun {ts
     subst (λ t. Reads modules levels.Postfix t (call_of f (paths_given ps))) (sym (append_assoc cs (sign p signs.LeftParen ∷ []) us))
     (tighter refl (call p direct c given (has-value (lacks f (paths_given ps)) v)))
 operand-reads (an_expression adm fields d) v = d
+
+-- an operand that is a path was read as one
+pub operand-path : {modules : Modules} {h : Head} {k : List Frame} {ts : List Token} → Operand modules h k ts → (f : Path) → head_path h ≡ Some f
+    → Callee modules ts f
+operand-path {modules} {ts = ts} (operand_name p x) f e = subst (λ g. Callee modules ts g) (some-path e) (named (bare p x))
+operand-path {modules} {ts = ts} (operand_member p q r m x is adm) f e = subst (λ g. Callee modules ts g) (some-path e) (named (of_module p q r m x is))
+operand-path {modules} {ts = ts} (an_operator p q r o s is adm) f e = subst (λ g. Callee modules ts g) (some-path e) (operator p q r o s is)
+operand-path (a_place p q x d adm) f e = cc
+operand-path (a_call adm s given params short) f e = cc
+operand-path (an_expression adm fields d) f e = cc

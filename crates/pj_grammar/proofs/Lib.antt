@@ -1,7 +1,9 @@
 pub mod Adding
+pub mod Arguing
 pub mod Begin
 pub mod Begun
 pub mod Blocks
+pub mod Calling
 pub mod Computing
 pub mod Evaluations
 pub mod Expressions
