@@ -1,34 +1,24 @@
 -- Arguments that have been read so far, and how a call goes on and ends.
-use Rattle.std.proofs.Common.{◌≡◌, ℕ, Bool, true, false, List, [], ◌∷◌, ◌++◌, Option, Some, None, refl, sym, subst, ap, ◌∙◌}
-use Rattle.std.proofs.lemmas.List.{append_assoc}
+use Rattle.std.proofs.Common.{◌≡◌, false, List, [], ◌∷◌, ◌++◌, Some, refl, sym, subst, ap, ◌∙◌}
 use Rattle.pj_lex.specs.declared.sign.Sign.TheVariants as signs
 use Rattle.pj_lex.specs.declared.token.Token.{Token}
 use Rattle.pj_syntax.specs.declared.expression.Argument.{Argument}
 use Rattle.pj_syntax.specs.declared.expression.Path.{Path}
-use Rattle.pj_syntax.specs.declared.statement.Param.{Param}
 use Rattle.pj_grammar.specs.declared.level.Level.TheVariants as levels
 use Rattle.pj_grammar.specs.declared.node.Node.{Node}
 use Rattle.pj_grammar.specs.declared.node.Arguments.{Arguments}
-use Rattle.pj_grammar.specs.declared.frame.Frame.{Frame}
-use Rattle.pj_grammar.specs.declared.frame.Frame.TheVariants as frames
 use Rattle.pj_grammar.specs.declared.frame.Given.{Given as Shape}
 use Rattle.pj_grammar.specs.declared.frame.Given.TheVariants as given
 use Rattle.pj_grammar.specs.declared.mode.Head.{Head}
 use Rattle.pj_grammar.specs.declared.mode.Head.TheVariants as heads
-use Rattle.pj_grammar.specs.declared.mode.Mode.TheVariants as modes
-use Rattle.pj_grammar.specs.Expressions.{Callee, Given, Reads, call, ended, has_fields, last, more, read, tighter}
-use Rattle.pj_grammar.specs.Frames.{admits, at, give, head_path, node, params_of, takes_short}
-use Rattle.pj_grammar.specs.Makers.{argument_after, argument_before, call_of, lacks, name_of, no_arguments, paths_given}
+use Rattle.pj_grammar.specs.Expressions.{Callee, Given, Reads, more, read, tighter}
+use Rattle.pj_grammar.specs.Frames.{give, head_path, node}
+use Rattle.pj_grammar.specs.Makers.{argument_after, lacks, paths_given}
 use Rattle.pj_grammar.specs.Modules.{Modules}
-use Rattle.pj_grammar.specs.Operands.{close_call, close_paths}
-use Rattle.pj_grammar.specs.Statements.{Parameters}
-use Rattle.pj_grammar.specs.Texts.{Kind}
 use Rattle.pj_grammar.specs.Tokens.{Place, sign}
-use Rattle.pj_grammar.proofs.Adding.{give-after, given_arguments, join, join-after, join-none, none-join, paths-after}
-use Rattle.pj_grammar.proofs.Begun.{ArgumentsBegun, GivenBegun, Opens, PathsBegun, ShortBegun, Under, call_begun, no_argument, no_paths, short_begun, then_argument, then_path, under}
-use Rattle.pj_grammar.proofs.Operating.{guard-stands, stands-text}
-use Rattle.pj_grammar.proofs.Settling.{opens-more, with-sign}
-use Rattle.pj_grammar.proofs.Standing.{Stands, a_call, an_expression, bare_at, has_operand, over_frames}
+use Rattle.pj_grammar.proofs.Adding.{join, join-after, none-join, paths-after}
+use Rattle.pj_grammar.proofs.Begun.{ArgumentsBegun, GivenBegun, PathsBegun, no_argument, no_paths, then_argument, then_path}
+use Rattle.pj_grammar.proofs.Settling.{with-sign}
 
 pub given-at : {modules : Modules} {a b : List Token} {es fs : Arguments} → Given modules a es → a ≡ b → es ≡ fs → Given modules b fs
 given-at {modules} {a} {b} {es} {fs} d p q = subst (λ x. Given modules x fs) p (subst (λ x. Given modules a x) q d)

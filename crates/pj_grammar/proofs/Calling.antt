@@ -1,5 +1,5 @@
 -- A call goes on behind an argument, and ends.
-use Rattle.std.proofs.Common.{◌≡◌, ℕ, Bool, true, false, List, [], ◌∷◌, ◌++◌, Option, Some, None, refl, sym, subst, ap, ◌∙◌}
+use Rattle.std.proofs.Common.{◌≡◌, Bool, true, false, List, [], ◌∷◌, ◌++◌, Some, refl, sym, subst, ap, ◌∙◌}
 use Rattle.std.proofs.lemmas.List.{append_assoc}
 use Rattle.pj_lex.specs.declared.sign.Sign.TheVariants as signs
 use Rattle.pj_lex.specs.declared.token.Token.{Token}
@@ -16,13 +16,13 @@ use Rattle.pj_grammar.specs.declared.mode.Head.TheVariants as heads
 use Rattle.pj_grammar.specs.declared.mode.Mode.TheVariants as modes
 use Rattle.pj_grammar.specs.Expressions.{Callee, Given, Reads, call, ended, has_fields, last, more, tighter}
 use Rattle.pj_grammar.specs.Frames.{admits, at, give, head_path, node, params_of, takes_short}
-use Rattle.pj_grammar.specs.Makers.{argument_after, argument_before, call_of, lacks, no_arguments, paths_given}
+use Rattle.pj_grammar.specs.Makers.{argument_after, call_of, lacks, no_arguments, paths_given}
 use Rattle.pj_grammar.specs.Modules.{Modules}
 use Rattle.pj_grammar.specs.Operands.{close_call, close_paths}
 use Rattle.pj_grammar.specs.Statements.{Parameters}
 use Rattle.pj_grammar.specs.Texts.{Kind}
 use Rattle.pj_grammar.specs.Tokens.{Place, sign}
-use Rattle.pj_grammar.proofs.Adding.{give-after, given_arguments, join, join-after, join-none}
+use Rattle.pj_grammar.proofs.Adding.{give-after, given_arguments, join-after, join-none}
 use Rattle.pj_grammar.proofs.Arguing.{close-arguments, give-begun, given-at, paths-arguments}
 use Rattle.pj_grammar.proofs.Begun.{ArgumentsBegun, GivenBegun, Opens, ShortBegun, Under, call_begun, short_begun, under}
 use Rattle.pj_grammar.proofs.Levels.{absurd-of}

@@ -1,5 +1,5 @@
 -- What an operand is in the grammar, and how one is made.
-use Rattle.std.proofs.Common.{◌≡◌, ℕ, Bool, true, false, not, List, [], ◌∷◌, ◌++◌, Option, Some, None, if◌then◌else◌, refl, sym, subst, ap, ◌∙◌}
+use Rattle.std.proofs.Common.{◌≡◌, Bool, true, false, not, List, [], ◌∷◌, ◌++◌, Some, if◌then◌else◌, refl, sym, subst, ap}
 use Rattle.std.proofs.lemmas.List.{append_assoc}
 use Rattle.pj_lex.specs.declared.sign.Sign.TheVariants as signs
 use Rattle.pj_lex.specs.declared.token.Token.{Token}
@@ -11,10 +11,10 @@ use Rattle.pj_grammar.specs.declared.mode.Head.{Head}
 use Rattle.pj_grammar.specs.Expressions.{Callee, Reads, call, field, has_fields, named, of_module, bare, operator, read, tighter}
 use Rattle.pj_grammar.specs.Frames.{head_path, is_value, node}
 use Rattle.pj_grammar.specs.Makers.{call_of, lacks, paths_given}
-use Rattle.pj_grammar.specs.Modules.{Modules, is_module}
+use Rattle.pj_grammar.specs.Modules.{Modules}
 use Rattle.pj_grammar.specs.Statements.{Holder, a_field, a_member, a_name}
-use Rattle.pj_grammar.specs.Tokens.{Place, sign}
-use Rattle.pj_grammar.proofs.Begun.{ShortBegun, short_begun}
+use Rattle.pj_grammar.specs.Tokens.{sign}
+use Rattle.pj_grammar.proofs.Begun.{short_begun}
 use Rattle.pj_grammar.proofs.Standing.{Operand, a_call, a_place, an_expression, an_operator}
 use Rattle.pj_grammar.proofs.Standing.{a_member as operand_member, a_name as operand_name}
 

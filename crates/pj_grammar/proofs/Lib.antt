@@ -7,6 +7,7 @@ pub mod Calling
 pub mod Computing
 pub mod Evaluations
 pub mod Expressions
+pub mod Finishing
 pub mod Follow
 pub mod Holding
 pub mod Holes

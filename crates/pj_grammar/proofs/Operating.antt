@@ -1,5 +1,5 @@
 -- Steps over operands and operators keep what has been read: an operand begins, an operator goes on from one.
-use Rattle.std.proofs.Common.{◌≡◌, ℕ, Bool, true, false, List, [], ◌∷◌, ◌++◌, Option, Some, None, refl, sym, subst, ap, ◌∙◌}
+use Rattle.std.proofs.Common.{◌≡◌, Bool, true, false, List, [], ◌∷◌, ◌++◌, Option, Some, refl, sym, subst, ap, ◌∙◌}
 use Rattle.std.proofs.lemmas.List.{append_assoc}
 use Rattle.pj_words.specs.declared.word.Word.TheVariants as words
 use Rattle.pj_lex.specs.declared.sign.Sign.{Sign}
@@ -13,17 +13,16 @@ use Rattle.pj_grammar.specs.declared.frame.Frame.{Frame}
 use Rattle.pj_grammar.specs.declared.frame.Frame.TheVariants as frames
 use Rattle.pj_grammar.specs.declared.frame.Purpose.TheVariants as purposes
 use Rattle.pj_grammar.specs.declared.mode.Head.{Head}
-use Rattle.pj_grammar.specs.declared.mode.Mode.{Mode}
 use Rattle.pj_grammar.specs.declared.mode.Mode.TheVariants as modes
 use Rattle.pj_grammar.specs.Expressions.{literal, tighter}
 use Rattle.pj_grammar.specs.Frames.{Settled, State, admits, at, guarded, is_value, settle}
 use Rattle.pj_grammar.specs.Levels.{fits, is_prefix, left_of, level_of, right_of}
-use Rattle.pj_grammar.specs.Machine.{close_types, opens_types, operand, operand_sign}
+use Rattle.pj_grammar.specs.Machine.{close_types, operand, operand_sign}
 use Rattle.pj_grammar.specs.Modules.{Modules}
 use Rattle.pj_grammar.specs.Operands.{ask, extend}
 use Rattle.pj_grammar.specs.Texts.{Kind}
 use Rattle.pj_grammar.specs.Tokens.{Place, sign, token}
-use Rattle.pj_grammar.proofs.Begun.{Begun, Opens, Under, group_begun, infix_begun, opens, prefix_begun, then_begun, under}
+use Rattle.pj_grammar.proofs.Begun.{Begun, Opens, Under, group_begun, infix_begun, prefix_begun, then_begun, under}
 use Rattle.pj_grammar.proofs.Holding.{operand-path, operand-reads}
 use Rattle.pj_grammar.proofs.Levels.{Binary, absurd-of, admits-tighter, and, binary, comparison, or, product, sum}
 use Rattle.pj_grammar.proofs.Settling.{Over, opens-more, settles}
