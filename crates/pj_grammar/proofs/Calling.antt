@@ -46,7 +46,7 @@ comma-stands modules kind f g h k before mine p (under {before = b} u o (call_be
     stands-text modules kind (at modes.Arguments (frames.Call f (give g h) ∷ k)) (b ++ (ts ++ (us ++ (mine ++ sign p signs.Comma ∷ [])))) _
     (regroup b ts us mine (sign p signs.Comma))
     (bare_at refl (under u (opens-more modules k (ts ++ us) (mine ++ sign p signs.Comma ∷ []) _ o (append_assoc ts us _))
-        (call_begun (us ++ (mine ++ sign p signs.Comma ∷ [])) adm s (give-begun us g h p begun c d))))
+    (call_begun (us ++ (mine ++ sign p signs.Comma ∷ [])) adm s (give-begun us g h p begun c d))))
 
 -- arguments and their end, behind what has been read of them
 pub begun-arguments : {modules : Modules} {ts : List Token} (g : Shape) → GivenBegun modules ts g → ArgumentsBegun modules ts (given_arguments g)
@@ -92,4 +92,4 @@ close-stands modules kind f (given.Paths ps) k before ts us u o adm s d params =
 close-stands modules kind f (given.Mixed es) k before _ us u o adm (short_begun {ts = cs} p c direct) d not =
     stands-text modules kind (at (modes.Have (heads.Plain (call_of f es))) k) (before ++ (cs ++ sign p signs.LeftParen ∷ us)) _ (ap (λ x. before ++ x) (sym (append_assoc cs (sign p signs.LeftParen ∷ []) us)))
     (over_frames u (subst (λ x. Opens modules k x) (append_assoc cs (sign p signs.LeftParen ∷ []) us) o)
-        (has_operand (an_expression adm (fields-given cs (sign p signs.LeftParen) d) (tighter refl (call p direct c d not)))))
+    (has_operand (an_expression adm (fields-given cs (sign p signs.LeftParen) d) (tighter refl (call p direct c d not)))))

@@ -37,7 +37,7 @@ colon-stands modules kind c h k before mine p (under {before = b} u o (then_begu
     stands-text modules kind (at modes.Want (frames.Else c (node h) ∷ k)) (b ++ (cs ++ sign q signs.Question ∷ (mine ++ sign p signs.Colon ∷ []))) _
     (behind-sign b cs mine (sign q signs.Question) (sign p signs.Colon))
     (bare_at refl (under u (opens-more modules k (cs ++ sign q signs.Question ∷ []) (mine ++ sign p signs.Colon ∷ []) _ o (append_assoc cs (sign q signs.Question ∷ []) _))
-        (else_begun q p adm d e)))
+    (else_begun q p adm d e)))
 
 -- `)` behind a group's expression
 pub group-stands : (modules : Modules) (kind : Kind) (a : ℕ) (types : Bool) (h : Head) (k : List Frame) (before mine : List Token) (p : Place)
@@ -47,4 +47,4 @@ group-stands modules kind a types h k before mine p (under {before = b} u o (gro
     stands-text modules kind (at (modes.Have (heads.Plain (group_of q.start (node h)))) k) (b ++ (sign q signs.LeftParen ∷ (mine ++ sign p signs.RightParen ∷ []))) _
     (behind-sign b [] mine (sign q signs.LeftParen) (sign p signs.RightParen))
     (over_frames u (opens-more modules k (sign q signs.LeftParen ∷ []) (mine ++ sign p signs.RightParen ∷ []) _ o refl)
-        (has_operand (an_expression adm (fields-two modules [] mine [] (sign q signs.LeftParen) (sign p signs.RightParen)) (tighter refl (group q p d)))))
+    (has_operand (an_expression adm (fields-two modules [] mine [] (sign q signs.LeftParen) (sign p signs.RightParen)) (tighter refl (group q p d)))))

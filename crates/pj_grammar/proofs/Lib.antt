@@ -5,6 +5,7 @@ pub mod Begun
 pub mod Blocks
 pub mod Calling
 pub mod Computing
+pub mod Dotting
 pub mod Evaluations
 pub mod Expressions
 pub mod Finishing

@@ -129,6 +129,7 @@ operand-stands modules kind k before p (kinds.Sign s) u adm o types = by-sign s 
     by-prefix : (s : Sign) → Opens modules k (sign p s ∷ [])
         → Stands modules kind (guarded (is_prefix s) (at modes.Want (frames.Prefix (record { sign = s; at = p.start }) ∷ k))) (before ++ sign p s ∷ [])
     by-prefix s o = guard-stands modules kind (is_prefix s) _ _ (λ is. bare_at refl (under u o (prefix_begun p s is adm)))
+
     by-sign : (s : Sign) → Opens modules k (sign p s ∷ []) → Stands modules kind (operand_sign k p.start s) (before ++ sign p s ∷ [])
     by-sign signs.LeftParen o = bare_at refl (under u o (group_begun p (admits-tighter k levels.Unary levels.Postfix adm refl) refl))
     by-sign signs.RightParen o = types p

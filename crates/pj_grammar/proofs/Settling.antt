@@ -79,15 +79,15 @@ settles {modules} {kind} low found high h (frames.Prefix op ∷ k) before ts (un
 settles {modules} {kind} low found high h (frames.Infix m a op ∷ k) before ts (under {before = b} u opened (infix_begun {ts = left} at s is adm e)) o path d p q =
     choose (λ x. Over modules kind low x (b ++ (left ++ sign at s ∷ []) ++ ts)) (fits low m) _ _
     (λ fit. over-text
-        (settles low m high (heads.Plain (infix_of a op (node h))) k b (left ++ sign at s ∷ ts) u (opens-more modules k _ ts _ opened (append_assoc left (sign at s ∷ []) ts)) (λ g z. no-path z) (infix_ at s is e (tighter (q (high-right m (binary s m is))) d)) fit (λ a. adm))
-        (with-sign b left ts (sign at s)))
+    (settles low m high (heads.Plain (infix_of a op (node h))) k b (left ++ sign at s ∷ ts) u (opens-more modules k _ ts _ opened (append_assoc left (sign at s ∷ []) ts)) (λ g z. no-path z) (infix_ at s is e (tighter (q (high-right m (binary s m is))) d)) fit (λ a. adm))
+    (with-sign b left ts (sign at s)))
     (stays (under u opened (infix_begun at s is adm e)) o path d p q)
 settles {modules} {kind} low found high h (frames.Else c a ∷ k) before ts (under {before = b} u opened (else_begun {ts = cs} {us = us} at to adm e f)) o path d p q =
     choose (λ x. Over modules kind low x (b ++ (cs ++ sign at signs.Question ∷ (us ++ sign to signs.Colon ∷ [])) ++ ts)) (fits low levels.Conditional) _ _
     (λ fit. over-text
-        (settles low levels.Conditional high (heads.Plain (conditional_of c a (node h))) k b (cs ++ sign at signs.Question ∷ (us ++ sign to signs.Colon ∷ ts)) u
-            (opens-more modules k _ ts _ opened (with-signs cs us ts (sign at signs.Question) (sign to signs.Colon))) (λ g z. no-path z) (conditional at to e f (tighter (q refl) d)) fit (λ a. adm))
-        (sym (append_assoc b _ ts ∙ ap (λ x. b ++ x) (with-signs cs us ts (sign at signs.Question) (sign to signs.Colon)))))
+    (settles low levels.Conditional high (heads.Plain (conditional_of c a (node h))) k b (cs ++ sign at signs.Question ∷ (us ++ sign to signs.Colon ∷ ts)) u
+    (opens-more modules k _ ts _ opened (with-signs cs us ts (sign at signs.Question) (sign to signs.Colon))) (λ g z. no-path z) (conditional at to e f (tighter (q refl) d)) fit (λ a. adm))
+    (sym (append_assoc b _ ts ∙ ap (λ x. b ++ x) (with-signs cs us ts (sign at signs.Question) (sign to signs.Colon)))))
     (stays (under u opened (else_begun at to adm e f)) o path d p q)
 settles low found high h (frames.Then c ∷ k) before ts u o path d p q = stays u o path d p q
 settles low found high h (frames.Group a types ∷ k) before ts u o path d p q = stays u o path d p q
