@@ -10,7 +10,7 @@ use Rattle.pj_grammar.specs.declared.mode.Head.{Head}
 use Rattle.pj_grammar.specs.declared.mode.Head.TheVariants as heads
 use Rattle.pj_grammar.specs.declared.mode.Mode.TheVariants as modes
 use Rattle.pj_grammar.specs.Expressions.{Reads, field, has_fields}
-use Rattle.pj_grammar.specs.Frames.{admits, at, guarded}
+use Rattle.pj_grammar.specs.Frames.{admits, at}
 use Rattle.pj_grammar.specs.Makers.{field_of}
 use Rattle.pj_grammar.specs.Modules.{Modules}
 use Rattle.pj_grammar.specs.Statements.{Holder}
@@ -18,7 +18,6 @@ use Rattle.pj_grammar.specs.Texts.{Kind}
 use Rattle.pj_grammar.specs.Tokens.{Place, name, sign, spot}
 use Rattle.pj_grammar.proofs.Begun.{Opens, Under}
 use Rattle.pj_grammar.proofs.Holding.{fields-of-more}
-use Rattle.pj_grammar.proofs.Operating.{stands-text}
 use Rattle.pj_grammar.proofs.Settling.{opens-more}
 use Rattle.pj_grammar.proofs.Standing.{Stands, a_place, an_expression, has_operand, over_frames}
 

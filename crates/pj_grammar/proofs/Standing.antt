@@ -73,8 +73,6 @@ pub data Mine (modules : Modules) : Mode → List Frame → List Token → Type 
       → Mine modules (modes.Member (spot p m)) k (name p m ∷ sign q signs.Dot ∷ [])
   has_base : {k : List Frame} (p q r : Place) → admits k levels.Callee ≡ true
       → Mine modules (modes.BaseOperator (spot p (codes "Base"))) k (name p (codes "Base") ∷ sign q signs.Dot ∷ sign r signs.Colon ∷ [])
-  has_parameters : {ts us : List Token} {f : Path} {ps : List Param} {k : List Frame} → takes_definition k ≡ true → ShortBegun modules f ts
-      → Parameters modules us ps → Mine modules modes.ShortAssign (frames.Signature forms.Short f ps ∷ k) (ts ++ us)
   before_colon : {k : List Frame} (p q : Place) → takes_lines k ≡ true
       → Mine modules modes.EvalColon k (name p (codes "eval") ∷ sign q signs.LeftParen ∷ [])
   before_open : {k : List Frame} (p q r : Place) → takes_lines k ≡ true
@@ -168,6 +166,10 @@ pub data Standing (modules : Modules) (kind : Kind) : Mode → List Frame → Li
   -- a module's name behind `@eval`
   eval_named : {k : List Frame} {before : List Token} (p : Place) (m : List ℕ) → takes_module k ≡ true → is_module modules m ≡ true
       → Under modules kind k before → Standing modules kind (modes.EvalName (spot p m)) k (before ++ name p m ∷ [])
+  -- the parameters of a short definition have ended
+  signature_closed : {ts us before : List Token} {f : Path} {ps : List Param} {k : List Frame} → takes_definition k ≡ true → Under modules kind k before
+      → Opens modules k (ts ++ us) → ShortBegun modules f ts → Parameters modules us ps
+      → Standing modules kind modes.ShortAssign (frames.Signature forms.Short f ps ∷ k) (before ++ (ts ++ us))
   -- the types of a directive have ended
   types_closed : {ts us before : List Token} {f : Path} {types : List Path} {k : List Frame} → takes_directives k ≡ true → Under modules kind k before
       → DirectiveBegun modules f ts → Types modules us types → Standing modules kind modes.DirectiveEnd (frames.Types f types ∷ k) (before ++ (ts ++ us))
