@@ -42,7 +42,7 @@ abbrev pub given_arguments : Given → Arguments
 given_arguments (given.Paths ps) = paths_given ps
 given_arguments (given.Mixed es) = es
 
-paths-after : (ps : List Path) (f : Path) → paths_given (ps ++ f ∷ []) ≡ argument_after (paths_given ps) (name_of f)
+pub paths-after : (ps : List Path) (f : Path) → paths_given (ps ++ f ∷ []) ≡ argument_after (paths_given ps) (name_of f)
 unfolding paths_given argument_after argument_before no_arguments
 paths-after [] f = same refl (max-zero (name_of f).nesting ∙ sym (zero-max (name_of f).nesting))
 paths-after (p ∷ ps) f =
