@@ -12,8 +12,6 @@ pub mod Expressions
 pub mod Faulting
 pub mod Fielding
 pub mod Dotting
-pub mod Evaluations
-pub mod Expressions
 pub mod Finishing
 pub mod Follow
 pub mod Holding
