@@ -89,6 +89,7 @@ constants_and_uses =
     Each
     (whole script (codes "const K = 1 + 2") 2 (script_of ((items.Const (spot "K") (call (of "Base" "+") ((int 1) ∷ (int 2) ∷ []))) ∷ []))
     ∷ whole script (codes "using A , B ; x") 2 (script_of ((items.Using (spot "A" ∷ spot "B" ∷ [])) ∷ (items.Run (statements.Value (trees.Name (bare "x")))) ∷ []))
+    ∷ whole script (codes "using A , B ; B . x") 2 (script_of ((items.Using (spot "A" ∷ spot "B" ∷ [])) ∷ (items.Run (statements.Value (trees.Name (of "B" "x")))) ∷ []))
     ∷ whole script (codes "x ; using A") 2 (script_of ((items.Run (statements.Value (trees.Name (bare "x")))) ∷ (items.Using (spot "A" ∷ [])) ∷ []))
     ∷ whole script (codes "; ; x ; ;") 2 (script_of ((items.Run (statements.Value (trees.Name (bare "x")))) ∷ []))
     ∷ whole script ([]) 0 (script_of [])
@@ -108,5 +109,6 @@ constants_and_uses_refused =
     ∷ stops script (codes "precompile _(") 1
     ∷ stops script (codes "module P") 0
     ∷ stops script (codes "using 1") 1
+    ∷ stops script (codes "using A ; A . : +") 5
     ∷ stops script (codes "const K") 2
     ∷ [])

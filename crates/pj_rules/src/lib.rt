@@ -1,4 +1,4 @@
-//! Tests of the rules on trees: each computes a definition exactly.
+//! Which trees keep the rules on numbers, names and limits. Each function computes one definition exactly.
 #![tactic(auto)]
 
 mod counts;
