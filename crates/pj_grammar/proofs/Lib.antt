@@ -2,6 +2,7 @@ pub mod Adding
 pub mod Arguing
 pub mod Begin
 pub mod Begun
+pub mod Blocking
 pub mod Blocks
 pub mod Calling
 pub mod Computing
@@ -12,12 +13,14 @@ pub mod Expressions
 pub mod Faulting
 pub mod Fielding
 pub mod Dotting
+pub mod Ending
 pub mod Finishing
 pub mod Follow
 pub mod Holding
 pub mod Holes
 pub mod Joining
 pub mod Levels
+pub mod Listing
 pub mod Nesting
 pub mod Operating
 pub mod Parameters
