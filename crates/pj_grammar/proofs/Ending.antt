@@ -57,7 +57,7 @@ if-closes modules kind c a b (frames.Branch e ss ∷ k) _ ts us vs _ q (under {b
 if-closes modules kind c a b k before ts us vs _ q u (an_if p takes) d e f = statement-closes modules kind _ k before _ takes u (if_ p q d e f)
 
 -- what `@eval` evaluates ends
-not-true : (b : Bool) → not b ≡ true → b ≡ false
+pub not-true : (b : Bool) → not b ≡ true → b ≡ false
 not-true true h = cc
 not-true false h = refl
 

@@ -1,20 +1,23 @@
 -- What `@eval` evaluates begins, with or without a module, and keeps what has been read.
 -- what is no module's name may stand behind `@eval`
-use Rattle.pj_grammar.proofs.Begun.{Opens, Under, block_begun, function_begun, items_begun, package_begun, script_begun, then_module, then_name, under}
+use Rattle.pj_grammar.proofs.Begun.{Opens, Under, at_value, block_begun, call_begun, eval_begun, eval_in_begun, function_begun, items_begun, no_paths, package_begun, script_begun, short_begun, then_module, then_name, under}
 use Rattle.pj_grammar.proofs.Blocking.{bottom}
 use Rattle.pj_grammar.proofs.Directing.{and-first, and-second}
+use Rattle.pj_grammar.proofs.Ending.{lines-open, not-true}
 use Rattle.pj_grammar.proofs.Levels.{absurd-of}
 use Rattle.pj_grammar.proofs.Lining.{if-stands, value-begins}
 use Rattle.pj_grammar.proofs.Listing.{items-name}
 use Rattle.pj_grammar.proofs.Operating.{stands-text}
 use Rattle.pj_grammar.proofs.Settling.{opens-more}
-use Rattle.pj_grammar.proofs.Standing.{Stands, a_name, bare_at, eval_named, text_ended}
+use Rattle.pj_grammar.proofs.Standing.{Stands, a_name, bare_at, eval_named, has_module, over_frames, text_ended}
 use Rattle.pj_grammar.specs.Closing.{accept_script, after_end, closed_line}
-use Rattle.pj_grammar.specs.Frames.{at, takes_lines}
-use Rattle.pj_grammar.specs.Machine.{operand, payload, takes_module}
+use Rattle.pj_grammar.specs.Expressions.{bare, named}
+use Rattle.pj_grammar.specs.Frames.{at, settle, takes_lines}
+use Rattle.pj_grammar.specs.Machine.{eval_name_then, is_end, operand, payload, reads_name, takes_module}
 use Rattle.pj_grammar.specs.Makers.{entry_after, line_after, run_of}
 use Rattle.pj_grammar.specs.Modules.{Modules, is_module}
-use Rattle.pj_grammar.specs.Statements.{Block, Payload, begins_with_module, eval_name, is_dot, names_module, opens_directly, value}
+use Rattle.pj_grammar.specs.Operands.{have, have_dot, have_paren}
+use Rattle.pj_grammar.specs.Statements.{Block, Payload, begins_with_module, eval_name, is_dot, is_paren, names_module, opens_directly, value}
 use Rattle.pj_grammar.specs.Texts.{Items, Kind, is_script, script}
 use Rattle.pj_grammar.specs.Tokens.{Place, name, separator, sign, spot, token, word}
 use Rattle.pj_grammar.specs.declared.frame.Frame.{Frame}
@@ -23,14 +26,16 @@ use Rattle.pj_grammar.specs.declared.frame.Root.{Root}
 use Rattle.pj_grammar.specs.declared.node.Entries.{Entries}
 use Rattle.pj_grammar.specs.declared.node.Line.{Line}
 use Rattle.pj_grammar.specs.declared.node.Lines.{Lines}
+use Rattle.pj_lex.specs.declared.sign.Sign.{Sign}
 use Rattle.pj_lex.specs.declared.token.Token.{Token}
 use Rattle.pj_lex.specs.declared.token.TokenKind.{TokenKind}
 use Rattle.pj_syntax.specs.declared.expression.Spot.{Spot}
 use Rattle.pj_syntax.specs.declared.statement.Function.{Function}
 use Rattle.pj_words.specs.declared.word.Word.{Word}
-use Rattle.std.proofs.Common.{Bool, List, None, Option, Some, [], ap, false, not, refl, sym, true, ℕ, ◌&&◌, ◌++◌, ◌||◌, ◌∷◌, ◌≡◌}
+use Rattle.std.proofs.Common.{Bool, List, None, Option, Some, [], ap, false, not, refl, sym, true, ℕ, ◌&&◌, ◌++◌, ◌||◌, ◌∙◌, ◌∷◌, ◌≡◌}
 use Rattle.std.proofs.lemmas.List.{append_assoc}
 use Rattle.pj_grammar.specs.declared.frame.Frame.TheVariants as frames
+use Rattle.pj_grammar.specs.declared.mode.Head.TheVariants as heads
 use Rattle.pj_lex.specs.declared.token.TokenKind.TheVariants as kinds
 use Rattle.pj_grammar.specs.declared.mode.Mode.TheVariants as modes
 use Rattle.pj_grammar.specs.declared.frame.Purpose.TheVariants as purposes
@@ -144,3 +149,67 @@ paren-opens modules k q r m direct = λ rest. by-bool (is_module modules m) r.bl
     by-bool false true h = refl
     by-bool true false h = refl
     by-bool false false h = refl
+
+module-dot : (modules : Modules) (kind : Kind) (k : List Frame) (before : List Token) (p q : Place) (m : List ℕ) → is_module modules m ≡ true
+    → Under modules kind (frames.Payload None false ∷ k) before
+    → Stands modules kind (have_dot modules (heads.Name (spot p m)) (frames.Hole purposes.Value ∷ frames.Payload None false ∷ k)) (before ++ name p m ∷ sign q signs.Dot ∷ [])
+module-dot modules kind k before p q m known u =
+    if-stands modules kind (is_module modules m) _ _ _
+    (λ h. over_frames (at_value refl u) (dot-opens modules k p q m) (has_module p q m known refl))
+    (λ h. absurd-of (sym h ∙ known))
+
+module-paren : (modules : Modules) (kind : Kind) (k : List Frame) (before : List Token) (p q : Place) (m : List ℕ) → q.blank ≡ false
+    → Under modules kind (frames.Payload None false ∷ k) before
+    → Stands modules kind (have_paren (heads.Name (spot p m)) (frames.Hole purposes.Value ∷ frames.Payload None false ∷ k) q.blank) (before ++ name p m ∷ sign q signs.LeftParen ∷ [])
+module-paren modules kind k before p q m direct u = by-blank q.blank direct
+  where
+    by-blank : (b : Bool) → b ≡ false → Stands modules kind (have_paren (heads.Name (spot p m)) (frames.Hole purposes.Value ∷ frames.Payload None false ∷ k) b) (before ++ name p m ∷ sign q signs.LeftParen ∷ [])
+    by-blank true h = absurd-of (sym h)
+    by-blank false h = bare_at refl (under (at_value refl u) (paren-opens modules k p q m direct) (call_begun [] refl (short_begun q (named (bare p m)) direct) no_paths))
+
+or-third : (a b c : Bool) → (a || b || c) ≡ false → c ≡ false
+or-third true b c h = absurd-of (sym h)
+or-third false true c h = absurd-of (sym h)
+or-third false false c h = h
+
+-- what follows a module's name behind `@eval`
+pub eval-name-stands : (modules : Modules) (kind : Kind) (k : List Frame) (before : List Token) (p q : Place) (m : List ℕ) (what : TokenKind) → takes_module k ≡ true
+    → is_module modules m ≡ true → Under modules kind k before
+    → Stands modules kind (eval_name_then modules (spot p m) k q what) (before ++ name p m ∷ [] ++ token q what ∷ [])
+unfolding settle
+eval-name-stands modules kind (frames.Payload None false ∷ k) _ p q m what takes known (under {before = b} u o (eval_begun r lines)) =
+    if-stands modules kind (reads_name q what) _ _ _ (by-kind what)
+    (λ h. stands-text modules kind (payload modules (frames.Payload (Some (spot p m)) false ∷ k) q what) ((b ++ token r kinds.AtEval ∷ name p m ∷ []) ++ token q what ∷ [])
+    ((b ++ token r kinds.AtEval ∷ []) ++ name p m ∷ [] ++ token q what ∷ []) (simp append_assoc)
+    (payload-stands modules kind (Some (spot p m)) false k (b ++ token r kinds.AtEval ∷ name p m ∷ []) q what
+    (under u (lines-open modules k (token r kinds.AtEval ∷ name p m ∷ []) lines) (eval_in_begun r p m lines known))
+    (λ _ rest. ap not (or-third (is_end what) (is_dot what) (is_paren what && not q.blank) h))))
+  where
+    v : Under modules kind (frames.Payload None false ∷ k) (b ++ token r kinds.AtEval ∷ [])
+    v = under u o (eval_begun r lines)
+
+    by-sign : (s : Sign) → reads_name q (kinds.Sign s) ≡ true
+        → Stands modules kind (have modules (heads.Name (spot p m)) (frames.Hole purposes.Value ∷ frames.Payload None false ∷ k) q (kinds.Sign s)) ((b ++ token r kinds.AtEval ∷ []) ++ name p m ∷ [] ++ sign q s ∷ [])
+    by-sign signs.Dot h =
+        stands-text modules kind (have_dot modules (heads.Name (spot p m)) (frames.Hole purposes.Value ∷ frames.Payload None false ∷ k)) ((b ++ token r kinds.AtEval ∷ []) ++ name p m ∷ sign q signs.Dot ∷ [])
+        ((b ++ token r kinds.AtEval ∷ []) ++ name p m ∷ [] ++ sign q signs.Dot ∷ []) (simp append_assoc)
+        (module-dot modules kind k (b ++ token r kinds.AtEval ∷ []) p q m known v)
+    by-sign signs.LeftParen h =
+        stands-text modules kind (have_paren (heads.Name (spot p m)) (frames.Hole purposes.Value ∷ frames.Payload None false ∷ k) q.blank) ((b ++ token r kinds.AtEval ∷ []) ++ name p m ∷ sign q signs.LeftParen ∷ [])
+        ((b ++ token r kinds.AtEval ∷ []) ++ name p m ∷ [] ++ sign q signs.LeftParen ∷ []) (simp append_assoc)
+        (module-paren modules kind k (b ++ token r kinds.AtEval ∷ []) p q m (not-true q.blank h) v)
+    by-sign s h = absurd-of h
+
+    by-kind : (what : TokenKind) → reads_name q what ≡ true
+        → Stands modules kind (have modules (heads.Name (spot p m)) (frames.Hole purposes.Value ∷ frames.Payload None false ∷ k) q what) ((b ++ token r kinds.AtEval ∷ []) ++ name p m ∷ [] ++ token q what ∷ [])
+    by-kind kinds.Separator h =
+        stands-text modules kind (after_end (closed_line (eval_name (spot p m)) k) kinds.Separator) (b ++ token r kinds.AtEval ∷ name p m ∷ separator q ∷ [])
+        ((b ++ token r kinds.AtEval ∷ []) ++ name p m ∷ [] ++ separator q ∷ []) (simp append_assoc)
+        (name-separated modules kind k b r p q m known lines u)
+    by-kind kinds.Eof h =
+        stands-text modules kind (after_end (closed_line (eval_name (spot p m)) k) kinds.Eof) (b ++ token r kinds.AtEval ∷ name p m ∷ token q kinds.Eof ∷ [])
+        ((b ++ token r kinds.AtEval ∷ []) ++ name p m ∷ [] ++ token q kinds.Eof ∷ []) (simp append_assoc)
+        (name-ended modules kind k b r p q m known lines u)
+    by-kind (kinds.Sign s) h = by-sign s h
+    by-kind what h = absurd-of h
+eval-name-stands modules kind k before p q m what takes known u = absurd-of takes

@@ -30,6 +30,7 @@ pub mod Nesting
 pub mod Operating
 pub mod Parameters
 pub mod Payloads
+pub mod Purposing
 pub mod Reading
 pub mod Settling
 pub mod Signing
