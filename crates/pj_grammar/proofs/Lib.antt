@@ -6,6 +6,7 @@ pub mod Blocking
 pub mod Blocks
 pub mod Calling
 pub mod Computing
+pub mod Concluding
 pub mod Determined
 pub mod Directives
 pub mod Evaluating
