@@ -45,7 +45,7 @@ pub and-second : (a b : Bool) → (a && b) ≡ true → b ≡ true
 and-second true b h = h
 and-second false b h = absurd-of h
 
-directives-lines : (k : List Frame) → takes_directives k ≡ true → takes_lines k ≡ true
+pub directives-lines : (k : List Frame) → takes_directives k ≡ true → takes_lines k ≡ true
 directives-lines (frames.Items root is ∷ k) h = refl
 directives-lines k h = absurd-of h
 

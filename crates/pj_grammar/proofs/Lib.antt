@@ -19,6 +19,7 @@ pub mod Dotting
 pub mod Ending
 pub mod Finishing
 pub mod Follow
+pub mod Having
 pub mod Heading
 pub mod Holding
 pub mod Holes
