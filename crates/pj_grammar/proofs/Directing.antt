@@ -72,7 +72,7 @@ not-empty {ℓ} : {A : Type ℓ} (xs : List Path) (f : Path) → xs ++ f ∷ [] 
 not-empty [] f h = cc
 not-empty (x ∷ xs) f h = cc
 
-no-path : {modules : Modules} {ts : List Token} (ps : List Path) → PathsBegun modules ts ps → ps ≡ [] → ts ≡ []
+pub no-path : {modules : Modules} {ts : List Token} (ps : List Path) → PathsBegun modules ts ps → ps ≡ [] → ts ≡ []
 no-path _ no_paths e = refl
 no-path ps (then_path {ps = before} {f = f} p b c is) e = not-empty before f (sym is ∙ e)
 

@@ -1,5 +1,6 @@
 pub mod Adding
 pub mod Arguing
+pub mod Becoming
 pub mod Begin
 pub mod Begun
 pub mod Blocking
@@ -29,6 +30,7 @@ pub mod Lining
 pub mod Listing
 pub mod Naming
 pub mod Nesting
+pub mod Opening
 pub mod Operating
 pub mod Parameters
 pub mod Payloads
