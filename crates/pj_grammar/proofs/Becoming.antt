@@ -3,7 +3,6 @@ use Rattle.pj_grammar.proofs.Begun.{Opens, ShortBegun, Under, assign_begun, assi
 use Rattle.pj_grammar.proofs.Concluding.{first-stands, value-stands}
 use Rattle.pj_grammar.proofs.Directing.{after-type-stands, directive-named}
 use Rattle.pj_grammar.proofs.Ending.{lines-open}
-use Rattle.pj_grammar.proofs.Evaluations.{plain}
 use Rattle.pj_grammar.proofs.Follow.{over}
 use Rattle.pj_grammar.proofs.Having.{dot-stands, paren-stands}
 use Rattle.pj_grammar.proofs.Heading.{field-added, parent-stands, type-stands}
@@ -18,12 +17,10 @@ use Rattle.pj_grammar.proofs.Standing.{Operand, Stands, a_call, a_member, a_name
 use Rattle.pj_grammar.specs.Expressions.{Callee, Named, bare, of_module}
 use Rattle.pj_grammar.specs.Frames.{admits, at, head_path, is_value, params_of, settle, takes_definition, takes_lines}
 use Rattle.pj_grammar.specs.Levels.{left_of, level_of}
-use Rattle.pj_grammar.specs.Machine.{start}
 use Rattle.pj_grammar.specs.Modules.{Modules}
-use Rattle.pj_grammar.specs.Operands.{add_name, after_path, ask, assignment, define, dot, extend, have, have_assign, have_dot, have_next, have_other, have_path, have_type, infix_, is_plain, next_assignment, next_infix, other, paren, question, type}
-use Rattle.pj_grammar.specs.RowsExpressions.{levels}
-use Rattle.pj_grammar.specs.Statements.{Assigned, Block, Parameters, Payload, assigning, operator_at, to_field, to_name, untyped, with_name}
-use Rattle.pj_grammar.specs.Texts.{Field, Fields, Items, Kind, Types, field}
+use Rattle.pj_grammar.specs.Operands.{add_name, after_path, ask, define, extend, have, have_assign, have_dot, have_next, have_other, have_path, have_type, is_plain, next_assignment, next_infix}
+use Rattle.pj_grammar.specs.Statements.{Assigned, Parameters, assigning, operator_at, to_field, to_name, untyped, with_name}
+use Rattle.pj_grammar.specs.Texts.{Kind, field}
 use Rattle.pj_grammar.specs.Tokens.{Place, name, sign, spot, token}
 use Rattle.pj_grammar.specs.declared.frame.Frame.{Frame}
 use Rattle.pj_grammar.specs.declared.frame.Target.{Target}
@@ -47,6 +44,7 @@ use Rattle.pj_grammar.specs.declared.mode.Mode.TheVariants as modes
 use Rattle.pj_grammar.specs.declared.frame.Purpose.TheVariants as purposes
 use Rattle.pj_lex.specs.declared.sign.Sign.TheVariants as signs
 use Rattle.pj_grammar.specs.declared.frame.Target.TheVariants as targets
+
 is-assign : (s : Sign) → assigning s ≡ Some None → s ≡ signs.Assign
 is-assign signs.Assign h = refl
 is-assign s h = cc

@@ -1,6 +1,4 @@
 -- The end of a block, and of the items of a text, behind what has been read of them.
--- a block whose last statement has ended, if it has one; the items of a text, whatever ends them
-use Rattle.pj_grammar.proofs.Begin.{text}
 use Rattle.pj_grammar.proofs.Begun.{Opened, Opens, RootBegun, Under, an_else_if, asks, block_begun, branch_begun, else_opened, for_opened, function_opened, hole_begun, if_opened, items_begun, long_begun, no_line, nothing, package_begun, script_begun, under, while_opened}
 use Rattle.pj_grammar.proofs.Ending.{if-closes, method-closes, statement-closes}
 use Rattle.pj_grammar.proofs.Levels.{absurd-of}
@@ -23,7 +21,6 @@ use Rattle.pj_grammar.specs.declared.node.Line.{Line}
 use Rattle.pj_grammar.specs.declared.node.Lines.{Lines}
 use Rattle.pj_lex.specs.declared.token.Token.{Token}
 use Rattle.pj_lex.specs.declared.token.TokenKind.{TokenKind}
-use Rattle.pj_syntax.specs.declared.statement.Function.{Function}
 use Rattle.pj_words.specs.declared.word.Word.{Word}
 use Rattle.std.proofs.Common.{List, [], refl, subst, sym, true, ◌++◌, ◌∷◌, ◌≡◌}
 use Rattle.std.proofs.lemmas.List.{append-nil, append_assoc}
@@ -35,6 +32,8 @@ use Rattle.pj_grammar.specs.declared.frame.Purpose.TheVariants as purposes
 use Rattle.pj_grammar.specs.declared.frame.Root.TheVariants as roots
 use Rattle.pj_lex.specs.declared.sign.Sign.TheVariants as signs
 use Rattle.pj_words.specs.declared.word.Word.TheVariants as words
+
+-- a block whose last statement has ended, if it has one; the items of a text, whatever ends them
 pub data Ended (modules : Modules) (kind : Kind) : List Frame → List Token → Type 0 where
   block_ended : {o : Opener} {ss : Lines} {k : List Frame} {before ts us : List Token} → Under modules kind k before → Opens modules k (ts ++ us)
       → Opened modules o k ts → Block modules us ss → Ended modules kind (frames.Block o ss ∷ k) (before ++ (ts ++ us))
@@ -136,8 +135,10 @@ package-ends modules _ _ is _ us p (package_begun {ts = ts} {us = vs} {names = n
     ((ts ++ word q words.Module ∷ name r x ∷ separator s ∷ vs) ++ (us ++ word p words.End ∷ []))
     (((ts ++ word q words.Module ∷ name r x ∷ separator s ∷ vs) ++ us) ++ word p words.End ∷ []) (simp append_assoc)
     (package_ended (package_begun q r s x seps used)
-    (record { ends = λ ws between e. subst (λ l. Items modules «package» l is) (sym (append_assoc us (word p words.End ∷ []) (ws ++ token e kinds.Eof ∷ [])))
-    (list (word p words.End ∷ (ws ++ token e kinds.Eof ∷ [])) (package_ends p e between)) }))
+    (record {
+      ends = λ ws between e. subst (λ l. Items modules «package» l is) (sym (append_assoc us (word p words.End ∷ []) (ws ++ token e kinds.Eof ∷ [])))
+          (list (word p words.End ∷ (ws ++ token e kinds.Eof ∷ [])) (package_ends p e between));
+    }))
 
 script-ends : (modules : Modules) (kind : Kind) (root : Root) (is : Entries) (ts us : List Token) (p : Place) → RootBegun root kind ts
     → ((es : List Token) → Ends kind es → Items modules kind (us ++ es) is)

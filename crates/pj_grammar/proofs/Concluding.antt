@@ -1,9 +1,8 @@
 -- The end of an expression keeps what has been read, whatever it stands in.
-use Rattle.pj_grammar.proofs.Begun.{Opens, Under, call_begun, opens, under}
+use Rattle.pj_grammar.proofs.Begun.{Opens, Under, call_begun, under}
 use Rattle.pj_grammar.proofs.Calling.{close-stands, comma-stands, last-argument}
 use Rattle.pj_grammar.proofs.Directing.{and-first, and-second, begin-types-stands, text-eq}
 use Rattle.pj_grammar.proofs.Ending.{lines-open}
-use Rattle.pj_grammar.proofs.Expressions.{reads}
 use Rattle.pj_grammar.proofs.Finishing.{colon-stands, group-stands}
 use Rattle.pj_grammar.proofs.Follow.{over}
 use Rattle.pj_grammar.proofs.Heading.{items-lines}
@@ -19,8 +18,7 @@ use Rattle.pj_grammar.specs.Expressions.{Callee, Named, Reads}
 use Rattle.pj_grammar.specs.Frames.{Settled, admits, at, give, head_path, is_value, node, purpose_level, settle, takes_items, wants}
 use Rattle.pj_grammar.specs.Levels.{fits}
 use Rattle.pj_grammar.specs.Modules.{Modules}
-use Rattle.pj_grammar.specs.Operands.{after_argument, after_group, begin_type, close_call, finish, finish_at, have_first, have_value, is_type_word, type, type_path}
-use Rattle.pj_grammar.specs.RowsExpressions.{levels}
+use Rattle.pj_grammar.specs.Operands.{after_argument, after_group, begin_type, close_call, finish, finish_at, have_first, have_value, is_type_word, type_path}
 use Rattle.pj_grammar.specs.Texts.{Kind}
 use Rattle.pj_grammar.specs.Tokens.{Place, name, sign, spot, token, word}
 use Rattle.pj_grammar.specs.declared.frame.Frame.{Frame}
@@ -43,6 +41,7 @@ use Rattle.pj_grammar.specs.declared.mode.Mode.TheVariants as modes
 use Rattle.pj_grammar.specs.declared.frame.Purpose.TheVariants as purposes
 use Rattle.pj_lex.specs.declared.sign.Sign.TheVariants as signs
 use Rattle.pj_words.specs.declared.word.Word.TheVariants as words
+
 pub purpose-admits : (purpose : Purpose) → fits (purpose_level purpose) levels.Postfix ≡ true
 purpose-admits purposes.Value = refl
 purpose-admits (purposes.Assign target o) = refl
@@ -110,12 +109,12 @@ finish-at-stands : (modules : Modules) (kind : Kind) (h : Head) (k : List Frame)
     → ((f : Path) → type_path h ≡ Some f → Named modules mine f) → Reads modules levels.Conditional mine (node h)
     → (admits k levels.Postfix ≡ true → Reads modules (wants k) mine (node h))
     → Stands modules kind (finish_at h k what) (before ++ mine ++ token p what ∷ [])
-finish-at-stands modules kind h (frames.Then c ∷ k) before mine p what u o path name_ d wanted = in-condition modules kind c h k before mine p what u d
-finish-at-stands modules kind h (frames.Group a types ∷ k) before mine p what u o path name_ d wanted = in-group modules kind a types h k before mine p what u name_ d
-finish-at-stands modules kind h (frames.Call f g ∷ k) before mine p what u o path name_ d wanted = argument-stands modules kind f g h k before mine p what u path d
-finish-at-stands modules kind h (frames.Hole purpose ∷ k) before mine p what u o path name_ d wanted =
+finish-at-stands modules kind h (frames.Then c ∷ k) before mine p what u o path typed d wanted = in-condition modules kind c h k before mine p what u d
+finish-at-stands modules kind h (frames.Group a types ∷ k) before mine p what u o path typed d wanted = in-group modules kind a types h k before mine p what u typed d
+finish-at-stands modules kind h (frames.Call f g ∷ k) before mine p what u o path typed d wanted = argument-stands modules kind f g h k before mine p what u path d
+finish-at-stands modules kind h (frames.Hole purpose ∷ k) before mine p what u o path typed d wanted =
     purpose-stands modules kind purpose (node h) k before mine p what u o (wanted (purpose-admits purpose))
-finish-at-stands modules kind h k before mine p what u o path name_ d wanted = tt
+finish-at-stands modules kind h k before mine p what u o path typed d wanted = tt
 
 pub finish-stands : (modules : Modules) (kind : Kind) (s : Settled) (before : List Token) (p : Place) (what : TokenKind) → Over modules kind levels.Conditional s before
     → Stands modules kind (finish s what) (before ++ token p what ∷ [])
@@ -159,7 +158,7 @@ type-word-stands modules kind _ k over before _ p what u (a_name q x) is = by-ki
 type-word-stands modules kind _ k over before _ p what u (a_member q r s m x known adm) is = absurd-of is
 type-word-stands modules kind _ k over before _ p what u (an_operator q r s o x known adm) is = absurd-of is
 type-word-stands modules kind _ k over before _ p what u (a_place q r x d adm) is = absurd-of is
-type-word-stands modules kind _ k over before _ p what u (a_call adm s given_ params lone) is = absurd-of is
+type-word-stands modules kind _ k over before _ p what u (a_call adm s args params lone) is = absurd-of is
 type-word-stands modules kind _ k over before _ p what u (an_expression adm fields d) is = absurd-of is
 
 pub first-stands : (modules : Modules) (kind : Kind) (h : Head) (k : List Frame) (before ts : List Token) (p : Place) (what : TokenKind)

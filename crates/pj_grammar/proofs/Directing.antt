@@ -13,9 +13,8 @@ use Rattle.pj_grammar.specs.Machine.{close_types, opens_types}
 use Rattle.pj_grammar.specs.Makers.{Entry, directive_of}
 use Rattle.pj_grammar.specs.Modules.{Modules}
 use Rattle.pj_grammar.specs.Operands.{after_type, begin_types}
-use Rattle.pj_grammar.specs.Statements.{none}
-use Rattle.pj_grammar.specs.Texts.{Item, Items, Kind, Types, directive, no_types, «package»}
-use Rattle.pj_grammar.specs.Tokens.{Place, name, place, sign, token}
+use Rattle.pj_grammar.specs.Texts.{Item, Kind, Types, directive, no_types, «package»}
+use Rattle.pj_grammar.specs.Tokens.{Place, name, sign, token}
 use Rattle.pj_grammar.specs.declared.frame.Frame.{Frame}
 use Rattle.pj_lex.specs.declared.sign.Sign.{Sign}
 use Rattle.pj_lex.specs.declared.token.Token.{Token}
@@ -34,6 +33,7 @@ use Rattle.pj_syntax.specs.declared.expression.Path.TheVariants as paths
 use Rattle.pj_grammar.specs.declared.frame.Purpose.TheVariants as purposes
 use Rattle.pj_grammar.specs.declared.frame.Root.TheVariants as roots
 use Rattle.pj_lex.specs.declared.sign.Sign.TheVariants as signs
+
 pub text-eq : (a b : List ℕ) → bytes_eq a b ≡ true → a ≡ b
 text-eq a b h = (bytes_eq-Decides a b).0 h
 
@@ -111,14 +111,14 @@ call-directed modules kind (paths.Of m x) g k before p u h = absurd-of h
 call-directed modules kind (paths.Bare x) g k _ p (under {before = b} u o (call_begun us adm (short_begun {ts = cs} q callee direct) list)) h =
     let first = one-path g (g ∷ []) list refl in
     let at' = callee-bare callee x refl (codes "precompile") (text-eq x.text (codes "precompile") (and-first _ _ h)) in
-    record
-      { before = b
-      ; mine = name at'.place (codes "precompile") ∷ sign q signs.LeftParen ∷ (first.mine ++ sign first.comma signs.Comma ∷ sign p signs.LeftParen ∷ [])
-      ; is = simp append_assoc refl ∙ ap (λ l. b ++ ((name at'.place (codes "precompile") ∷ sign q signs.LeftParen ∷ []) ++ l) ++ sign p signs.LeftParen ∷ []) (sym first.is) ∙ ap (λ l. b ++ ((l ++ sign q signs.LeftParen ∷ []) ++ us) ++ sign p signs.LeftParen ∷ []) (sym at'.is)
-      ; under = (below-value u).under
-      ; takes = and-second _ _ h
-      ; directive = directive_begun at'.place q first.comma p first.callee
-      }
+    record {
+      before = b;
+      mine = name at'.place (codes "precompile") ∷ sign q signs.LeftParen ∷ (first.mine ++ sign first.comma signs.Comma ∷ sign p signs.LeftParen ∷ []);
+      is = simp append_assoc refl ∙ ap (λ l. b ++ ((name at'.place (codes "precompile") ∷ sign q signs.LeftParen ∷ []) ++ l) ++ sign p signs.LeftParen ∷ []) (sym first.is) ∙ ap (λ l. b ++ ((l ++ sign q signs.LeftParen ∷ []) ++ us) ++ sign p signs.LeftParen ∷ []) (sym at'.is);
+      under = (below-value u).under;
+      takes = and-second _ _ h;
+      directive = directive_begun at'.place q first.comma p first.callee;
+    }
 
 directed : (modules : Modules) (kind : Kind) (a : ℕ) (f g : Path) (k : List Frame) (before : List Token)
     → Under modules kind (frames.Group a true ∷ frames.Call f (given.Paths (g ∷ [])) ∷ frames.Hole purposes.Value ∷ k) before → Directed modules kind k g before

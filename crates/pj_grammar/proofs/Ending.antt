@@ -8,9 +8,8 @@ use Rattle.pj_grammar.specs.Expressions.{Reads}
 use Rattle.pj_grammar.specs.Frames.{at, takes_items, takes_lines}
 use Rattle.pj_grammar.specs.Makers.{Entry, Evaluated, Method, eval_of, if_of, method_defined, one_line, value_of}
 use Rattle.pj_grammar.specs.Modules.{Modules}
-use Rattle.pj_grammar.specs.RowsExpressions.{levels}
-use Rattle.pj_grammar.specs.Statements.{Block, Defines, Otherwise, Payload, Statement, begins_with_module, break, definition, else, else_if, end, eval, eval_in, eval_quoted, if_, only, opens_directly, set, value}
-use Rattle.pj_grammar.specs.Texts.{Item, Items, Kind, method, run}
+use Rattle.pj_grammar.specs.Statements.{Block, Defines, Otherwise, Payload, Statement, begins_with_module, definition, else_if, eval, eval_in, eval_quoted, if_, only, opens_directly, value}
+use Rattle.pj_grammar.specs.Texts.{Item, Kind, method, run}
 use Rattle.pj_grammar.specs.Tokens.{Place, name, separator, sign, spot, token, word}
 use Rattle.pj_grammar.specs.declared.frame.Frame.{Frame}
 use Rattle.pj_grammar.specs.declared.node.Line.{Line}
@@ -25,6 +24,7 @@ use Rattle.pj_grammar.specs.declared.level.Level.TheVariants as levels
 use Rattle.pj_grammar.specs.declared.mode.Mode.TheVariants as modes
 use Rattle.pj_lex.specs.declared.sign.Sign.TheVariants as signs
 use Rattle.pj_words.specs.declared.word.Word.TheVariants as words
+
 pub lines-open : (modules : Modules) (k : List Frame) (ts : List Token) → takes_lines k ≡ true → Opens modules k ts
 lines-open modules (frames.Block o ss ∷ k) ts h = λ more. refl
 lines-open modules (frames.Items root is ∷ k) ts h = λ more. refl

@@ -1,5 +1,4 @@
 -- What `@eval` evaluates begins, with or without a module, and keeps what has been read.
--- what is no module's name may stand behind `@eval`
 use Rattle.pj_grammar.proofs.Begun.{Opens, Under, at_value, block_begun, call_begun, eval_begun, eval_in_begun, function_begun, items_begun, no_paths, package_begun, script_begun, short_begun, then_module, then_name, under}
 use Rattle.pj_grammar.proofs.Blocking.{bottom}
 use Rattle.pj_grammar.proofs.Directing.{and-first, and-second}
@@ -9,7 +8,7 @@ use Rattle.pj_grammar.proofs.Lining.{if-stands, value-begins}
 use Rattle.pj_grammar.proofs.Listing.{items-name}
 use Rattle.pj_grammar.proofs.Operating.{stands-text}
 use Rattle.pj_grammar.proofs.Settling.{opens-more}
-use Rattle.pj_grammar.proofs.Standing.{Stands, a_name, bare_at, eval_named, has_module, over_frames, text_ended}
+use Rattle.pj_grammar.proofs.Standing.{Stands, bare_at, eval_named, has_module, over_frames, text_ended}
 use Rattle.pj_grammar.specs.Closing.{accept_script, after_end, closed_line}
 use Rattle.pj_grammar.specs.Expressions.{bare, named}
 use Rattle.pj_grammar.specs.Frames.{at, settle, takes_lines}
@@ -17,20 +16,18 @@ use Rattle.pj_grammar.specs.Machine.{eval_name_then, is_end, operand, payload, r
 use Rattle.pj_grammar.specs.Makers.{entry_after, line_after, run_of}
 use Rattle.pj_grammar.specs.Modules.{Modules, is_module}
 use Rattle.pj_grammar.specs.Operands.{have, have_dot, have_paren}
-use Rattle.pj_grammar.specs.Statements.{Block, Payload, begins_with_module, eval_name, is_dot, is_paren, names_module, opens_directly, value}
-use Rattle.pj_grammar.specs.Texts.{Items, Kind, is_script, script}
+use Rattle.pj_grammar.specs.Statements.{begins_with_module, eval_name, is_dot, is_paren, names_module, opens_directly}
+use Rattle.pj_grammar.specs.Texts.{Kind, is_script, script}
 use Rattle.pj_grammar.specs.Tokens.{Place, name, separator, sign, spot, token, word}
 use Rattle.pj_grammar.specs.declared.frame.Frame.{Frame}
 use Rattle.pj_grammar.specs.declared.frame.Opener.{Opener}
 use Rattle.pj_grammar.specs.declared.frame.Root.{Root}
 use Rattle.pj_grammar.specs.declared.node.Entries.{Entries}
-use Rattle.pj_grammar.specs.declared.node.Line.{Line}
 use Rattle.pj_grammar.specs.declared.node.Lines.{Lines}
 use Rattle.pj_lex.specs.declared.sign.Sign.{Sign}
 use Rattle.pj_lex.specs.declared.token.Token.{Token}
 use Rattle.pj_lex.specs.declared.token.TokenKind.{TokenKind}
 use Rattle.pj_syntax.specs.declared.expression.Spot.{Spot}
-use Rattle.pj_syntax.specs.declared.statement.Function.{Function}
 use Rattle.pj_words.specs.declared.word.Word.{Word}
 use Rattle.std.proofs.Common.{Bool, List, None, Option, Some, [], ap, false, not, refl, sym, true, ℕ, ◌&&◌, ◌++◌, ◌||◌, ◌∙◌, ◌∷◌, ◌≡◌}
 use Rattle.std.proofs.lemmas.List.{append_assoc}
@@ -42,6 +39,8 @@ use Rattle.pj_grammar.specs.declared.frame.Purpose.TheVariants as purposes
 use Rattle.pj_grammar.specs.declared.frame.Root.TheVariants as roots
 use Rattle.pj_lex.specs.declared.sign.Sign.TheVariants as signs
 use Rattle.pj_words.specs.declared.word.Word.TheVariants as words
+
+-- what is no module's name may stand behind `@eval`
 opens-fresh : (modules : Modules) (k : List Frame) (p : Place) (what : TokenKind) → names_module modules what ≡ false
     → Opens modules (frames.Payload None false ∷ k) (token p what ∷ [])
 opens-fresh modules k p what h = λ rest. by-rest rest

@@ -1,5 +1,4 @@
--- Whatever follows an operand keeps what has been read.
--- a dot
+-- A dot and a parenthesis behind an operand keep what has been read.
 use Rattle.pj_grammar.proofs.Begun.{Opens, ShortBegun, Under, call_begun, directive_function, function_begun, infix_begun, long_begun, long_signature, no_parameter, no_paths, short_begun, under}
 use Rattle.pj_grammar.proofs.Calling.{fields-given}
 use Rattle.pj_grammar.proofs.Concluding.{purpose-admits}
@@ -13,24 +12,21 @@ use Rattle.pj_grammar.proofs.Operating.{guard-stands, stands-text}
 use Rattle.pj_grammar.proofs.Settling.{opens-more}
 use Rattle.pj_grammar.proofs.Signing.{below-value}
 use Rattle.pj_grammar.proofs.Standing.{Operand, Stands, a_call, a_member, a_name, a_place, an_expression, an_operator, bare_at, before_colon, field_of_place, field_of_value, has_module, over_frames}
-use Rattle.pj_grammar.specs.Expressions.{Callee, Given as Arguing, Named, has_fields}
+use Rattle.pj_grammar.specs.Expressions.{Callee, Given as Arguing, has_fields}
 use Rattle.pj_grammar.specs.Frames.{admits, at, guarded, head_path, is_value, node, takes_directives, takes_lines}
 use Rattle.pj_grammar.specs.Levels.{fits, right_of}
 use Rattle.pj_grammar.specs.Makers.{field_of, name_of}
 use Rattle.pj_grammar.specs.Modules.{Modules, is_module}
-use Rattle.pj_grammar.specs.Operands.{assignment, dot, have_dot, have_paren, infix_, open_apart, open_call, open_direct, other, paren, question, type}
-use Rattle.pj_grammar.specs.RowsExpressions.{levels}
-use Rattle.pj_grammar.specs.Statements.{a_field, a_member as member_holder, a_name as name_holder, eval, to_field, to_name, untyped, with_name}
-use Rattle.pj_grammar.specs.Texts.{Field, Kind, field}
+use Rattle.pj_grammar.specs.Operands.{have_dot, have_paren, open_apart, open_call, open_direct}
+use Rattle.pj_grammar.specs.Statements.{a_field, a_member as member_holder, a_name as name_holder}
+use Rattle.pj_grammar.specs.Texts.{Kind}
 use Rattle.pj_grammar.specs.Tokens.{Place, name, sign, spot, word}
 use Rattle.pj_grammar.specs.declared.frame.Frame.{Frame}
-use Rattle.pj_grammar.specs.declared.frame.Given.{Given}
 use Rattle.pj_grammar.specs.declared.level.Level.{Level}
 use Rattle.pj_grammar.specs.declared.mode.Head.{Head}
 use Rattle.pj_grammar.specs.declared.node.Arguments.{Arguments}
 use Rattle.pj_lex.specs.declared.token.Token.{Token}
 use Rattle.pj_syntax.specs.declared.expression.Path.{Path}
-use Rattle.pj_syntax.specs.declared.statement.Function.{Function}
 use Rattle.std.proofs.Common.{Bool, List, None, Option, Some, [], ap, codes, false, refl, subst, sym, true, ℕ, ◌&&◌, ◌++◌, ◌∷◌, ◌≡◌}
 use Rattle.std.proofs.lemmas.List.{append-nil, append_assoc}
 use Rattle.std.specs.Str.{bytes_eq}
@@ -44,6 +40,8 @@ use Rattle.pj_syntax.specs.declared.expression.Path.TheVariants as paths
 use Rattle.pj_grammar.specs.declared.frame.Purpose.TheVariants as purposes
 use Rattle.pj_lex.specs.declared.sign.Sign.TheVariants as signs
 use Rattle.pj_words.specs.declared.word.Word.TheVariants as words
+
+-- a dot
 call-fields : {modules : Modules} {ts us : List Token} {f : Path} {es : Arguments} → ShortBegun modules f ts → Arguing modules us es → has_fields modules (ts ++ us) ≡ true
 call-fields {modules} {us = us} (short_begun {ts = cs} p c direct) d =
     subst (λ l. has_fields modules l ≡ true) (sym (append_assoc cs (sign p signs.LeftParen ∷ []) us)) (fields-given cs (sign p signs.LeftParen) d)
@@ -57,15 +55,15 @@ dot-behind modules kind _ k before _ p u o (a_name q x) v =
     (λ known. guard-stands modules kind (admits k levels.Named) (at (modes.Member (spot q x)) k) _ (λ adm. over_frames u o (has_module q p x known adm)))
     (λ known. guard-stands modules kind (admits k levels.Postfix) (at (modes.Field (name_of (paths.Bare (spot q x))) true) k) _ (λ adm. over_frames u o (field_of_place p adm (name_holder q x known))))
 dot-behind modules kind _ k before _ p u o (a_member q r s m x known adm) v =
-    guard-stands modules kind (admits k levels.Postfix) (at (modes.Field (name_of (paths.Of (spot q m) (spot s x))) true) k) _ (λ fits_. over_frames u o (field_of_place p fits_ (member_holder q r s m x known)))
+    guard-stands modules kind (admits k levels.Postfix) (at (modes.Field (name_of (paths.Of (spot q m) (spot s x))) true) k) _ (λ takes. over_frames u o (field_of_place p takes (member_holder q r s m x known)))
 dot-behind modules kind _ k before _ p u o (a_place {ts = ts} {e = e} q r x d adm) v =
-    guard-stands modules kind (admits k levels.Postfix) (at (modes.Field (field_of e (spot r x)) true) k) _ (λ fits_. over_frames u o (field_of_place p fits_ (a_field q r x d)))
+    guard-stands modules kind (admits k levels.Postfix) (at (modes.Field (field_of e (spot r x)) true) k) _ (λ takes. over_frames u o (field_of_place p takes (a_field q r x d)))
 dot-behind modules kind h k before _ p u o (an_operator q r s b x known adm) v =
-    guard-stands modules kind (admits k levels.Postfix) (at (modes.Field (node h) false) k) _ (λ fits_. over_frames u o (field_of_value p fits_ refl (operand-reads {k = k} (an_operator q r s b x known adm) v)))
+    guard-stands modules kind (admits k levels.Postfix) (at (modes.Field (node h) false) k) _ (λ takes. over_frames u o (field_of_value p takes refl (operand-reads {k = k} (an_operator q r s b x known adm) v)))
 dot-behind modules kind h k before _ p u o (a_call adm s args params lone) v =
-    guard-stands modules kind (admits k levels.Postfix) (at (modes.Field (node h) false) k) _ (λ fits_. over_frames u o (field_of_value p fits_ (call-fields s args) (operand-reads {k = k} (a_call adm s args params lone) v)))
+    guard-stands modules kind (admits k levels.Postfix) (at (modes.Field (node h) false) k) _ (λ takes. over_frames u o (field_of_value p takes (call-fields s args) (operand-reads {k = k} (a_call adm s args params lone) v)))
 dot-behind modules kind h k before _ p u o (an_expression adm fields d) v =
-    guard-stands modules kind (admits k levels.Postfix) (at (modes.Field (node h) false) k) _ (λ fits_. over_frames u o (field_of_value p fits_ fields d))
+    guard-stands modules kind (admits k levels.Postfix) (at (modes.Field (node h) false) k) _ (λ takes. over_frames u o (field_of_value p takes fields d))
 
 pub dot-stands : (modules : Modules) (kind : Kind) (h : Head) (k : List Frame) (before ts : List Token) (p : Place)
     → Under modules kind k before → Opens modules k ts → Operand modules h k ts → is_value h ≡ true
@@ -159,4 +157,3 @@ paren-stands modules kind h k before ts p u o d = by-blank p.blank refl
     by-blank : (b : Bool) → p.blank ≡ b → Stands modules kind (have_paren h k b) (before ++ ts ++ sign p signs.LeftParen ∷ [])
     by-blank true e = apart-behind modules kind h k k before ts p u d
     by-blank false e = by-path (head_path h) refl e
-

@@ -4,18 +4,17 @@ use Rattle.pj_grammar.proofs.Ending.{entry-closes, lines-open}
 use Rattle.pj_grammar.proofs.Levels.{absurd-of}
 use Rattle.pj_grammar.proofs.Listing.{close-fields}
 use Rattle.pj_grammar.proofs.Operating.{stands-text}
-use Rattle.pj_grammar.proofs.Signing.{Below, param-added}
+use Rattle.pj_grammar.proofs.Signing.{param-added}
 use Rattle.pj_grammar.proofs.Standing.{Stands, a_name, bare_at, has_operand, over_frames}
 use Rattle.pj_grammar.specs.Closing.{closed_entry}
 use Rattle.pj_grammar.specs.Expressions.{Named}
 use Rattle.pj_grammar.specs.Frames.{at, takes_items, takes_lines}
-use Rattle.pj_grammar.specs.Machine.{header, start}
-use Rattle.pj_grammar.specs.Makers.{abstract_of, declared, struct_of}
+use Rattle.pj_grammar.specs.Machine.{header}
+use Rattle.pj_grammar.specs.Makers.{abstract_of, struct_of}
 use Rattle.pj_grammar.specs.Modules.{Modules}
-use Rattle.pj_grammar.specs.Operands.{add_param, after_field, after_header, after_param, end_fields, start_field, type}
-use Rattle.pj_grammar.specs.RowsPackages.{headers}
+use Rattle.pj_grammar.specs.Operands.{add_param, after_field, after_header, after_param, end_fields, start_field}
 use Rattle.pj_grammar.specs.Statements.{Parameter, typed, with_name, without}
-use Rattle.pj_grammar.specs.Texts.{Above, Field, Fields, Item, Items, Kind, abstract_type, below, field, last_field, mutable_type, no_field, nothing_above, struct, struct_type}
+use Rattle.pj_grammar.specs.Texts.{Above, Field, Fields, Item, Kind, abstract_type, below, field, last_field, mutable_type, no_field, nothing_above, struct, struct_type}
 use Rattle.pj_grammar.specs.Tokens.{Place, name, separator, sign, spot, token, word}
 use Rattle.pj_grammar.specs.declared.frame.Frame.{Frame}
 use Rattle.pj_grammar.specs.declared.frame.Header.{Header}
@@ -34,6 +33,7 @@ use Rattle.pj_lex.specs.declared.token.TokenKind.TheVariants as kinds
 use Rattle.pj_grammar.specs.declared.mode.Mode.TheVariants as modes
 use Rattle.pj_lex.specs.declared.sign.Sign.TheVariants as signs
 use Rattle.pj_words.specs.declared.word.Word.TheVariants as words
+
 pub items-lines : (k : List Frame) → takes_items k ≡ true → takes_lines k ≡ true
 items-lines (frames.Items root is ∷ k) h = refl
 items-lines k h = absurd-of h

@@ -38,6 +38,7 @@ pub mod Purposing
 pub mod Reading
 pub mod Settling
 pub mod Signing
+pub mod Sounding
 pub mod Standing
 pub mod Statements
 pub mod Stepping

@@ -1,9 +1,7 @@
 -- What follows a statement or an item, and what begins one, keep what has been read.
--- conditions
 use Rattle.pj_grammar.proofs.Begun.{Opens, Under, an_if, asks, at_value, block_begun, eval_begun, function_begun, hole_begun, items_begun, repeats, takes_value, then_blank, then_gap, then_item, then_line, under}
 use Rattle.pj_grammar.proofs.Blocking.{Ended, ending-stands, item-ended, line-ended, list-ended}
 use Rattle.pj_grammar.proofs.Ending.{lines-open, statement-closes}
-use Rattle.pj_grammar.proofs.Expressions.{Closed}
 use Rattle.pj_grammar.proofs.Levels.{absurd-of}
 use Rattle.pj_grammar.proofs.Operating.{guard-stands, operand-stands, stands-text}
 use Rattle.pj_grammar.proofs.Settling.{opens-more}
@@ -13,8 +11,8 @@ use Rattle.pj_grammar.specs.Frames.{State, at, takes_definition, takes_items, ta
 use Rattle.pj_grammar.specs.Machine.{line, line_word, operand}
 use Rattle.pj_grammar.specs.Makers.{Entry, entry_after, line_after}
 use Rattle.pj_grammar.specs.Modules.{Modules}
-use Rattle.pj_grammar.specs.Statements.{Block, Payload, Statement, break, else, «continue»}
-use Rattle.pj_grammar.specs.Texts.{Item, Items, Kind, run}
+use Rattle.pj_grammar.specs.Statements.{Statement, break, «continue»}
+use Rattle.pj_grammar.specs.Texts.{Item, Kind}
 use Rattle.pj_grammar.specs.Tokens.{Place, separator, sign, token, word}
 use Rattle.pj_grammar.specs.declared.frame.Frame.{Frame}
 use Rattle.pj_grammar.specs.declared.frame.Opener.{Opener}
@@ -23,10 +21,8 @@ use Rattle.pj_grammar.specs.declared.mode.Mode.{Mode}
 use Rattle.pj_grammar.specs.declared.node.Entries.{Entries}
 use Rattle.pj_grammar.specs.declared.node.Line.{Line}
 use Rattle.pj_grammar.specs.declared.node.Lines.{Lines}
-use Rattle.pj_lex.specs.declared.sign.Sign.{Sign}
 use Rattle.pj_lex.specs.declared.token.Token.{Token}
 use Rattle.pj_lex.specs.declared.token.TokenKind.{TokenKind}
-use Rattle.pj_syntax.specs.declared.statement.Function.{Function}
 use Rattle.pj_words.specs.declared.word.Word.{Word}
 use Rattle.std.proofs.Common.{Bool, List, None, Option, Some, [], false, if◌then◌else◌, refl, subst, sym, true, ◌++◌, ◌∷◌, ◌≡◌}
 use Rattle.std.proofs.lemmas.List.{append_assoc}
@@ -36,6 +32,8 @@ use Rattle.pj_grammar.specs.declared.mode.Mode.TheVariants as modes
 use Rattle.pj_grammar.specs.declared.frame.Purpose.TheVariants as purposes
 use Rattle.pj_lex.specs.declared.sign.Sign.TheVariants as signs
 use Rattle.pj_words.specs.declared.word.Word.TheVariants as words
+
+-- conditions
 pub if-stands : (modules : Modules) (kind : Kind) (b : Bool) (s t : Option State) (ts : List Token) → (b ≡ true → Stands modules kind s ts)
     → (b ≡ false → Stands modules kind t ts) → Stands modules kind (if b then s else t) ts
 if-stands modules kind true s t ts f g = f refl

@@ -8,7 +8,7 @@ use Rattle.pj_grammar.specs.Expressions.{Named}
 use Rattle.pj_grammar.specs.Makers.{Entry, entry_after, line_after, run_of}
 use Rattle.pj_grammar.specs.Modules.{Modules, is_module}
 use Rattle.pj_grammar.specs.Statements.{Block, Parameter, Parameters, Statement, also, eval_name, last_line, last_one, no_more, none, skip, then_after_name, then_lines}
-use Rattle.pj_grammar.specs.Texts.{Ends, Fields, Item, Items, Kind, MoreTypes, Names, PackageRest, Separators, Types, a_separator, after_name, also_name, also_type, comma_ends, has_items, last_field, last_item, last_type, name_ends, no_field, no_items, no_separator, no_types, one_name, script, skip_before, skip_field, skip_item, then_fields, then_items, types, uses}
+use Rattle.pj_grammar.specs.Texts.{Ends, Fields, Item, Items, Kind, MoreTypes, Names, PackageRest, Separators, Types, a_separator, after_name, also_name, also_type, comma_ends, last_item, last_type, name_ends, no_items, no_separator, no_types, one_name, script, skip_before, skip_field, skip_item, then_fields, then_items, types, uses}
 use Rattle.pj_grammar.specs.Tokens.{Place, name, separator, sign, spot, token, word}
 use Rattle.pj_grammar.specs.declared.node.Entries.{Entries}
 use Rattle.pj_grammar.specs.declared.node.Line.{Line}
@@ -22,6 +22,7 @@ use Rattle.std.proofs.lemmas.List.{append-nil, append_assoc}
 use Rattle.pj_lex.specs.declared.token.TokenKind.TheVariants as kinds
 use Rattle.pj_lex.specs.declared.sign.Sign.TheVariants as signs
 use Rattle.pj_words.specs.declared.word.Word.TheVariants as words
+
 pub close-parameters : {modules : Modules} {ts us : List Token} {xs ys : List Param} → ParametersBegun modules ts xs → Parameters modules us ys
     → Parameters modules (ts ++ us) (xs ++ ys)
 close-parameters no_parameter d = d

@@ -1,5 +1,4 @@
--- Names behind `using`, `const`, `global`, `for` and `function`, and the head of a package, keep what has been read.
--- the text is that of a script
+-- Names behind `using` and `function` keep what has been read.
 use Rattle.pj_grammar.proofs.Begun.{ItemsBegun, Opens, Under, UsesBegun, function_begun, items_begun, no_item, package_begun, script_begun, then_gap, then_item, then_module, then_space, then_use, under}
 use Rattle.pj_grammar.proofs.Ending.{entry-closes, lines-open}
 use Rattle.pj_grammar.proofs.Heading.{items-lines}
@@ -14,19 +13,17 @@ use Rattle.pj_grammar.specs.Machine.{after_declared, after_use, end_uses, expect
 use Rattle.pj_grammar.specs.Makers.{declared, entry_after, no_entries, run_of, using_of}
 use Rattle.pj_grammar.specs.Modules.{Modules}
 use Rattle.pj_grammar.specs.Operands.{after_function}
-use Rattle.pj_grammar.specs.Statements.{eval_name, none}
-use Rattle.pj_grammar.specs.Texts.{Item, Items, Kind, Names, Separators, a_separator, declaration, no_separator, script, using, «package»}
+use Rattle.pj_grammar.specs.Statements.{eval_name}
+use Rattle.pj_grammar.specs.Texts.{Item, Kind, Names, Separators, a_separator, declaration, no_separator, script, using, «package»}
 use Rattle.pj_grammar.specs.Tokens.{Place, name, separator, sign, spot, token, word}
 use Rattle.pj_grammar.specs.declared.frame.Frame.{Frame}
 use Rattle.pj_grammar.specs.declared.mode.Head.{Head}
 use Rattle.pj_grammar.specs.declared.node.Entries.{Entries}
-use Rattle.pj_grammar.specs.declared.node.Line.{Line}
 use Rattle.pj_lex.specs.declared.sign.Sign.{Sign}
 use Rattle.pj_lex.specs.declared.token.Token.{Token}
 use Rattle.pj_lex.specs.declared.token.TokenKind.{TokenKind}
 use Rattle.pj_syntax.specs.declared.expression.Spot.{Spot}
 use Rattle.pj_syntax.specs.declared.item.Item.{Item as Tree}
-use Rattle.pj_syntax.specs.declared.statement.Function.{Function}
 use Rattle.pj_words.specs.declared.word.Word.{Word}
 use Rattle.std.proofs.Common.{List, Option, [], refl, subst, sym, true, ℕ, ◌++◌, ◌∷◌, ◌≡◌}
 use Rattle.std.proofs.lemmas.List.{append-nil, append_assoc}
@@ -37,6 +34,8 @@ use Rattle.pj_grammar.specs.declared.mode.Mode.TheVariants as modes
 use Rattle.pj_grammar.specs.declared.frame.Root.TheVariants as roots
 use Rattle.pj_lex.specs.declared.sign.Sign.TheVariants as signs
 use Rattle.pj_words.specs.declared.word.Word.TheVariants as words
+
+-- the text is that of a script
 script-of : {modules : Modules} {kind : Kind} {is : Entries} {k : List Frame} {before : List Token} → Under modules kind (frames.Items roots.Script is ∷ k) before → kind ≡ script
 script-of (under u o (items_begun script_begun list)) = refl
 

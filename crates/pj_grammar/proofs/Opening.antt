@@ -1,5 +1,4 @@
--- The steps of a call's arguments, of names behind dots, and of the fixed forms keep what has been read.
--- arguments end at once
+-- The steps of a call's arguments, of names behind dots, of the fixed forms, and of a package's head and end keep what has been read.
 use Rattle.pj_grammar.proofs.Begun.{Opens, RootBegun, ShortBegun, Under, assigns, call_begun, defines, global_begun, hole_begun, items_begun, no_item, no_use, nothing, only_type, package_begun, returns, short_begun, under}
 use Rattle.pj_grammar.proofs.Calling.{close-stands, no-argument}
 use Rattle.pj_grammar.proofs.Directing.{and-first, and-second, callee-bare, no-path, text-eq}
@@ -10,25 +9,21 @@ use Rattle.pj_grammar.proofs.Listing.{close-uses, separators-more}
 use Rattle.pj_grammar.proofs.Operating.{guard-stands, operand-stands, stands-text}
 use Rattle.pj_grammar.proofs.Settling.{opens-more}
 use Rattle.pj_grammar.proofs.Signing.{below-value, may-end, typed-call}
-use Rattle.pj_grammar.proofs.Standing.{Ending, Mine, Stands, a_member, a_name, a_place, an_operator, at_package, at_package_name, bare_at, before_open, field_of_place, field_of_value, has_base, has_module, has_operand, over_frames, package_ended, text_ended}
+use Rattle.pj_grammar.proofs.Standing.{Ending, Mine, Stands, a_member, an_operator, at_package, at_package_name, bare_at, before_open, field_of_place, field_of_value, has_base, has_module, has_operand, over_frames, package_ended, text_ended}
 use Rattle.pj_grammar.specs.Closing.{after_end, closed_line}
-use Rattle.pj_grammar.specs.Expressions.{Callee}
 use Rattle.pj_grammar.specs.Frames.{State, admits, at, takes_definition, takes_lines}
 use Rattle.pj_grammar.specs.Levels.{operator_text}
-use Rattle.pj_grammar.specs.Machine.{after_return, argument, base_operator, ends_line, expect_name, expect_sign, field_name, global_assign, member_name, operand, package_end, package_named, package_start, quote, set_global, short_assign, start, type_argument}
+use Rattle.pj_grammar.specs.Machine.{after_return, argument, base_operator, ends_line, expect_name, expect_sign, field_name, global_assign, member_name, operand, package_end, package_named, package_start, quote, set_global, short_assign, type_argument}
 use Rattle.pj_grammar.specs.Makers.{bare_return, field_of, no_entries}
 use Rattle.pj_grammar.specs.Modules.{Modules}
 use Rattle.pj_grammar.specs.Operands.{close_call}
-use Rattle.pj_grammar.specs.RowsExpressions.{levels}
-use Rattle.pj_grammar.specs.Statements.{Parameters, assigning, eval, operator_at, return_nothing}
-use Rattle.pj_grammar.specs.Texts.{Field, IsText, Items, Kind, PackageRest, Separators, a_separator, has_items, is_package, no_separator, «package»}
-use Rattle.pj_grammar.specs.Tokens.{Place, name, place, separator, sign, spot, token, word}
+use Rattle.pj_grammar.specs.Statements.{Parameters, assigning, operator_at, return_nothing}
+use Rattle.pj_grammar.specs.Texts.{IsText, Items, Kind, PackageRest, Separators, a_separator, has_items, is_package, no_separator, «package»}
+use Rattle.pj_grammar.specs.Tokens.{Place, name, separator, sign, spot, token, word}
 use Rattle.pj_grammar.specs.declared.frame.Frame.{Frame}
 use Rattle.pj_grammar.specs.declared.frame.Given.{Given}
-use Rattle.pj_grammar.specs.declared.level.Operator.{Operator}
 use Rattle.pj_grammar.specs.declared.mode.Mode.{Mode}
 use Rattle.pj_grammar.specs.declared.node.Entries.{Entries}
-use Rattle.pj_grammar.specs.declared.node.Line.{Line}
 use Rattle.pj_grammar.specs.declared.node.Node.{Node}
 use Rattle.pj_lex.specs.Signs.{is_operator}
 use Rattle.pj_lex.specs.declared.sign.Sign.{Sign}
@@ -55,6 +50,8 @@ use Rattle.pj_grammar.specs.declared.frame.Root.TheVariants as roots
 use Rattle.pj_lex.specs.declared.sign.Sign.TheVariants as signs
 use Rattle.pj_grammar.specs.declared.frame.Target.TheVariants as targets
 use Rattle.pj_words.specs.declared.word.Word.TheVariants as words
+
+-- arguments end at once
 arguments-end : (modules : Modules) (kind : Kind) (f : Path) (g : Given) (k : List Frame) (before : List Token) (p : Place) → Under modules kind (frames.Call f g ∷ k) before
     → Stands modules kind (close_call f g k) (before ++ sign p signs.RightParen ∷ [])
 arguments-end modules kind f g k _ p (under {before = b} u o (call_begun {ts = ts} us adm s list)) =

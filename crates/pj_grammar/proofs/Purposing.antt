@@ -9,13 +9,11 @@ use Rattle.pj_grammar.proofs.Standing.{Stands, bare_at}
 use Rattle.pj_grammar.specs.Closing.{after_end, closed_entry, closed_evaluated, closed_line, closed_method, closed_set, closed_value}
 use Rattle.pj_grammar.specs.Expressions.{Reads}
 use Rattle.pj_grammar.specs.Frames.{State, at, purpose_level, takes_lines}
-use Rattle.pj_grammar.specs.Machine.{start}
 use Rattle.pj_grammar.specs.Makers.{assign_of, const_of, no_lines, return_of, set_evaluated, short_method}
 use Rattle.pj_grammar.specs.Modules.{Modules}
 use Rattle.pj_grammar.specs.Operands.{after_purpose}
-use Rattle.pj_grammar.specs.RowsExpressions.{levels}
-use Rattle.pj_grammar.specs.Statements.{Block, Payload, Statement, assign, assigning, global, operator_at, return_value, set, short}
-use Rattle.pj_grammar.specs.Texts.{Field, Items, Kind, const}
+use Rattle.pj_grammar.specs.Statements.{Statement, assign, assigning, global, operator_at, return_value, set, short}
+use Rattle.pj_grammar.specs.Texts.{Kind, const}
 use Rattle.pj_grammar.specs.Tokens.{Place, name, separator, sign, spot, token, word}
 use Rattle.pj_grammar.specs.declared.frame.Frame.{Frame}
 use Rattle.pj_grammar.specs.declared.frame.Opener.{Opener}
@@ -38,6 +36,7 @@ use Rattle.pj_grammar.specs.declared.frame.Purpose.TheVariants as purposes
 use Rattle.pj_lex.specs.declared.sign.Sign.TheVariants as signs
 use Rattle.pj_grammar.specs.declared.frame.Target.TheVariants as targets
 use Rattle.pj_words.specs.declared.word.Word.TheVariants as words
+
 set-line : (target : Target) (o : Option Operator) (e : Node) (k : List Frame) → takes_lines k ≡ true → closed_set target o e k ≡ closed_line (assign_of target o e) k
 set-line (targets.Local x) o e (frames.Block b ss ∷ k) h = refl
 set-line (targets.Local x) o e (frames.Items root is ∷ k) h = refl

@@ -1,35 +1,30 @@
 -- Parameters, also where they began as the arguments of a call, keep what has been read.
--- a definition of a form, up to its parameters
 use Rattle.pj_grammar.proofs.Arguing.{lacks-not}
-use Rattle.pj_grammar.proofs.Begin.{starts}
-use Rattle.pj_grammar.proofs.Begun.{GivenBegun, LongBegun, Opens, ParametersBegun, PathsBegun, ShortBegun, TypeBegun, Under, at_value, block_begun, call_begun, function_opened, hole_begun, long_signature, no_line, no_parameter, no_paths, only_type, opens, short_signature, takes_value, then_parameter, then_path, type_begun, under}
+use Rattle.pj_grammar.proofs.Begun.{GivenBegun, LongBegun, Opens, ParametersBegun, PathsBegun, ShortBegun, TypeBegun, Under, at_value, block_begun, call_begun, function_opened, hole_begun, long_signature, no_line, no_parameter, no_paths, only_type, short_signature, takes_value, then_parameter, then_path, type_begun, under}
 use Rattle.pj_grammar.proofs.Calling.{MayEnd}
 use Rattle.pj_grammar.proofs.Lining.{opens-value}
 use Rattle.pj_grammar.proofs.Listing.{last-parameter, no-parameter}
 use Rattle.pj_grammar.proofs.Operating.{guard-stands, stands-text}
 use Rattle.pj_grammar.proofs.Settling.{opens-more}
 use Rattle.pj_grammar.proofs.Standing.{Stands, a_name, bare_at, has_operand, over_frames, signature_closed}
-use Rattle.pj_grammar.specs.Expressions.{Callee, bare, last, named, of_module, operator, read}
+use Rattle.pj_grammar.specs.Expressions.{Callee, bare, named, of_module, operator}
 use Rattle.pj_grammar.specs.Frames.{at, give, head_path, params_of, takes_definition}
 use Rattle.pj_grammar.specs.Machine.{parameter}
-use Rattle.pj_grammar.specs.Makers.{declared, no_lines, paths_given}
+use Rattle.pj_grammar.specs.Makers.{no_lines, paths_given}
 use Rattle.pj_grammar.specs.Modules.{Modules}
 use Rattle.pj_grammar.specs.Operands.{after_param, end_params, type_of_param}
-use Rattle.pj_grammar.specs.Statements.{Block, Parameter, Parameters, typed, untyped, with_name, without}
+use Rattle.pj_grammar.specs.Statements.{Parameter, Parameters, untyped, with_name}
 use Rattle.pj_grammar.specs.Texts.{Kind}
 use Rattle.pj_grammar.specs.Tokens.{Place, name, sign, token}
 use Rattle.pj_grammar.specs.declared.frame.Form.{Form}
 use Rattle.pj_grammar.specs.declared.frame.Frame.{Frame}
 use Rattle.pj_grammar.specs.declared.frame.Given.{Given}
-use Rattle.pj_grammar.specs.declared.level.Operator.{Operator}
 use Rattle.pj_grammar.specs.declared.mode.Head.{Head}
-use Rattle.pj_grammar.specs.declared.node.Line.{Line}
 use Rattle.pj_lex.specs.declared.sign.Sign.{Sign}
 use Rattle.pj_lex.specs.declared.token.Token.{Token}
 use Rattle.pj_lex.specs.declared.token.TokenKind.{TokenKind}
 use Rattle.pj_syntax.specs.declared.expression.Path.{Path}
 use Rattle.pj_syntax.specs.declared.expression.Spot.{Spot}
-use Rattle.pj_syntax.specs.declared.statement.Function.{Function}
 use Rattle.pj_syntax.specs.declared.statement.Param.{Param}
 use Rattle.std.proofs.Common.{List, None, Option, Some, [], ap, refl, subst, sym, true, ℕ, ◌++◌, ◌∙◌, ◌∷◌, ◌≡◌}
 use Rattle.std.proofs.lemmas.List.{append-nil, append_assoc}
@@ -43,6 +38,8 @@ use Rattle.pj_grammar.specs.declared.frame.Opener.TheVariants as openers
 use Rattle.pj_syntax.specs.declared.expression.Path.TheVariants as paths
 use Rattle.pj_grammar.specs.declared.frame.Purpose.TheVariants as purposes
 use Rattle.pj_lex.specs.declared.sign.Sign.TheVariants as signs
+
+-- a definition of a form, up to its parameters
 abbrev pub FormBegun : Modules → Form → Path → List Token → Type 0
 FormBegun modules forms.Short f ts = ShortBegun modules f ts
 FormBegun modules forms.Long f ts = LongBegun modules f ts
