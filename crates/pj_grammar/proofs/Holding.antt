@@ -8,10 +8,11 @@ use Rattle.pj_grammar.specs.declared.level.Level.TheVariants as levels
 use Rattle.pj_grammar.specs.declared.node.Node.{Node}
 use Rattle.pj_grammar.specs.declared.frame.Frame.{Frame}
 use Rattle.pj_grammar.specs.declared.mode.Head.{Head}
-use Rattle.pj_grammar.specs.Expressions.{Callee, Reads, call, field, has_fields, named, of_module, bare, operator, read, tighter}
+use Rattle.pj_grammar.specs.Expressions.{Callee, Named, Reads, call, field, has_fields, named, of_module, bare, operator, read, tighter}
 use Rattle.pj_grammar.specs.Frames.{head_path, is_value, node}
 use Rattle.pj_grammar.specs.Makers.{call_of, lacks, paths_given}
 use Rattle.pj_grammar.specs.Modules.{Modules}
+use Rattle.pj_grammar.specs.Operands.{type_path}
 use Rattle.pj_grammar.specs.Statements.{Holder, a_field, a_member, a_name}
 use Rattle.pj_grammar.specs.Tokens.{sign}
 use Rattle.pj_grammar.proofs.Begun.{short_begun}
@@ -63,3 +64,13 @@ operand-path {modules} {ts = ts} (an_operator p q r o s is adm) f e = subst (λ 
 operand-path (a_place p q x d adm) f e = cc
 operand-path (a_call adm s given params short) f e = cc
 operand-path (an_expression adm fields d) f e = cc
+
+-- an operand that can be a type's name was read as one
+pub operand-type : {modules : Modules} {h : Head} {k : List Frame} {ts : List Token} → Operand modules h k ts → (f : Path) → type_path h ≡ Some f
+    → Named modules ts f
+operand-type {modules} {ts = ts} (operand_name p x) f e = subst (λ g. Named modules ts g) (some-path e) (bare p x)
+operand-type {modules} {ts = ts} (operand_member p q r m x is adm) f e = subst (λ g. Named modules ts g) (some-path e) (of_module p q r m x is)
+operand-type (an_operator p q r o s is adm) f e = cc
+operand-type (a_place p q x d adm) f e = cc
+operand-type (a_call adm s given params short) f e = cc
+operand-type (an_expression adm fields d) f e = cc

@@ -23,7 +23,7 @@ use Rattle.pj_grammar.specs.Operands.{ask, extend}
 use Rattle.pj_grammar.specs.Texts.{Kind}
 use Rattle.pj_grammar.specs.Tokens.{Place, sign, token}
 use Rattle.pj_grammar.proofs.Begun.{Begun, Opens, Under, group_begun, infix_begun, prefix_begun, then_begun, under}
-use Rattle.pj_grammar.proofs.Holding.{operand-path, operand-reads}
+use Rattle.pj_grammar.proofs.Holding.{operand-path, operand-reads, operand-type}
 use Rattle.pj_grammar.proofs.Levels.{Binary, absurd-of, admits-tighter, and, binary, comparison, or, product, sum}
 use Rattle.pj_grammar.proofs.Settling.{Over, opens-more, settles}
 use Rattle.pj_grammar.proofs.Standing.{Operand, Stands, a_name, an_expression, bare_at, has_operand, over_frames, wants_operand}
@@ -96,13 +96,13 @@ pub infix-stands : (modules : Modules) (kind : Kind) (h : Head) (k : List Frame)
     → Stands modules kind (extend l s p.start (settle (left_of l) h k)) (before ++ ts ++ sign p s ∷ [])
 infix-stands modules kind h k before ts l p s u o d v is =
     extend-stands modules kind l p s _ (before ++ ts) is
-    (settles (left_of l) levels.Postfix (high-left l (binary s l is)) h k before ts u o (operand-path d) (operand-reads d v) (low-left l (binary s l is)) (λ a. a))
+    (settles (left_of l) levels.Postfix (high-left l (binary s l is)) h k before ts u o (operand-path d) (operand-type d) (operand-reads d v) (low-left l (binary s l is)) (λ a. a))
 
 pub question-stands : (modules : Modules) (kind : Kind) (h : Head) (k : List Frame) (before ts : List Token) (p : Place)
     → Under modules kind k before → Opens modules k ts → Operand modules h k ts → is_value h ≡ true
     → Stands modules kind (ask (settle levels.Disjunction h k)) (before ++ ts ++ sign p signs.Question ∷ [])
 question-stands modules kind h k before ts p u o d v =
-    ask-stands modules kind p _ (before ++ ts) (settles levels.Disjunction levels.Postfix refl h k before ts u o (operand-path d) (operand-reads d v) refl (λ a. a))
+    ask-stands modules kind p _ (before ++ ts) (settles levels.Disjunction levels.Postfix refl h k before ts u o (operand-path d) (operand-type d) (operand-reads d v) refl (λ a. a))
 
 -- An operand begins. Where `)` stands, the types of a directive may end.
 pub operand-stands : (modules : Modules) (kind : Kind) (k : List Frame) (before : List Token) (p : Place) (what : TokenKind) → Under modules kind k before

@@ -10,11 +10,12 @@ use Rattle.pj_grammar.specs.declared.frame.Frame.{Frame}
 use Rattle.pj_grammar.specs.declared.frame.Frame.TheVariants as frames
 use Rattle.pj_grammar.specs.declared.mode.Head.{Head}
 use Rattle.pj_grammar.specs.declared.mode.Head.TheVariants as heads
-use Rattle.pj_grammar.specs.Expressions.{Callee, Reads, conditional, infix_, prefix, tighter}
+use Rattle.pj_grammar.specs.Expressions.{Callee, Named, Reads, conditional, infix_, prefix, tighter}
 use Rattle.pj_grammar.specs.Frames.{Settled, admits, head_path, node, settle, wants}
 use Rattle.pj_grammar.specs.Levels.{fits, right_of}
 use Rattle.pj_grammar.specs.Makers.{conditional_of, infix_of, prefix_of}
 use Rattle.pj_grammar.specs.Modules.{Modules}
+use Rattle.pj_grammar.specs.Operands.{type_path}
 use Rattle.pj_grammar.specs.Texts.{Kind}
 use Rattle.pj_grammar.specs.Tokens.{sign}
 use Rattle.pj_grammar.proofs.Levels.{Binary, and, binary, comparison, or, product, sum}
@@ -33,6 +34,7 @@ pub record Over (modules : Modules) (kind : Kind) (low : Level) (s : Settled) (t
   pub under : Under modules kind s.frames before
   pub opens : Opens modules s.frames mine
   pub path : (f : Path) → head_path s.head ≡ Some f → Callee modules mine f
+  pub type : (f : Path) → type_path s.head ≡ Some f → Named modules mine f
   pub reads : Reads modules low mine (node s.head)
   pub wanted : admits s.frames levels.Postfix ≡ true → Reads modules (wants s.frames) mine (node s.head)
 
@@ -48,9 +50,9 @@ pub with-signs : (cs ts us : List Token) (c t : Token) → (cs ++ c ∷ (ts ++ t
 with-signs cs ts us c t = append_assoc cs (c ∷ (ts ++ t ∷ [])) us ∙ ap (λ x. cs ++ c ∷ x) (append_assoc ts (t ∷ []) us)
 
 stays : {modules : Modules} {kind : Kind} {low found : Level} {h : Head} {k : List Frame} {before ts : List Token} → Under modules kind k before
-    → Opens modules k ts → ((f : Path) → head_path h ≡ Some f → Callee modules ts f) → Reads modules found ts (node h) → fits low found ≡ true → (admits k levels.Postfix ≡ true → fits (wants k) found ≡ true)
+    → Opens modules k ts → ((f : Path) → head_path h ≡ Some f → Callee modules ts f) → ((f : Path) → type_path h ≡ Some f → Named modules ts f) → Reads modules found ts (node h) → fits low found ≡ true → (admits k levels.Postfix ≡ true → fits (wants k) found ≡ true)
     → Over modules kind low (record { head = h; frames = k }) (before ++ ts)
-stays {before} {ts} u o c d p q = record { before = before; mine = ts; is = refl; under = u; opens = o; path = c; reads = tighter p d; wanted = λ a. tighter (q a) d }
+stays {before} {ts} u o c n d p q = record { before = before; mine = ts; is = refl; under = u; opens = o; path = c; type = n; reads = tighter p d; wanted = λ a. tighter (q a) d }
 
 -- the operands of operators are looser than fields
 high-right : (l : Level) → Binary l → fits (right_of l) levels.Postfix ≡ true
@@ -68,39 +70,39 @@ choose P true x y f e = f refl
 choose P false x y f e = e
 
 pub settles : {modules : Modules} {kind : Kind} (low found : Level) → fits low levels.Unary ≡ true → (h : Head) (k : List Frame) (before ts : List Token)
-    → Under modules kind k before → Opens modules k ts → ((f : Path) → head_path h ≡ Some f → Callee modules ts f) → Reads modules found ts (node h) → fits low found ≡ true → (admits k levels.Postfix ≡ true → fits (wants k) found ≡ true)
+    → Under modules kind k before → Opens modules k ts → ((f : Path) → head_path h ≡ Some f → Callee modules ts f) → ((f : Path) → type_path h ≡ Some f → Named modules ts f) → Reads modules found ts (node h) → fits low found ≡ true → (admits k levels.Postfix ≡ true → fits (wants k) found ≡ true)
     → Over modules kind low (settle low h k) (before ++ ts)
 unfolding settle
-settles low found high h [] before ts u o path d p q = stays u o path d p q
-settles {modules} {kind} low found high h (frames.Prefix op ∷ k) before ts (under {before = b} u opened (prefix_begun at s is adm)) o path d p q =
+settles low found high h [] before ts u o path type d p q = stays u o path type d p q
+settles {modules} {kind} low found high h (frames.Prefix op ∷ k) before ts (under {before = b} u opened (prefix_begun at s is adm)) o path type d p q =
     over-text
-    (settles low levels.Unary high (heads.Plain (prefix_of op (node h))) k b (sign at s ∷ ts) u (opens-more modules k (sign at s ∷ []) ts (sign at s ∷ ts) opened refl) (λ g z. no-path z) (prefix at s is (tighter (q refl) d)) high (λ a. adm))
+    (settles low levels.Unary high (heads.Plain (prefix_of op (node h))) k b (sign at s ∷ ts) u (opens-more modules k (sign at s ∷ []) ts (sign at s ∷ ts) opened refl) (λ g z. no-path z) (λ g z. no-path z) (prefix at s is (tighter (q refl) d)) high (λ a. adm))
     (sym (append_assoc b (sign at s ∷ []) ts))
-settles {modules} {kind} low found high h (frames.Infix m a op ∷ k) before ts (under {before = b} u opened (infix_begun {ts = left} at s is adm e)) o path d p q =
+settles {modules} {kind} low found high h (frames.Infix m a op ∷ k) before ts (under {before = b} u opened (infix_begun {ts = left} at s is adm e)) o path type d p q =
     choose (λ x. Over modules kind low x (b ++ (left ++ sign at s ∷ []) ++ ts)) (fits low m) _ _
     (λ fit. over-text
-    (settles low m high (heads.Plain (infix_of a op (node h))) k b (left ++ sign at s ∷ ts) u (opens-more modules k _ ts _ opened (append_assoc left (sign at s ∷ []) ts)) (λ g z. no-path z) (infix_ at s is e (tighter (q (high-right m (binary s m is))) d)) fit (λ a. adm))
+    (settles low m high (heads.Plain (infix_of a op (node h))) k b (left ++ sign at s ∷ ts) u (opens-more modules k _ ts _ opened (append_assoc left (sign at s ∷ []) ts)) (λ g z. no-path z) (λ g z. no-path z) (infix_ at s is e (tighter (q (high-right m (binary s m is))) d)) fit (λ a. adm))
     (with-sign b left ts (sign at s)))
-    (stays (under u opened (infix_begun at s is adm e)) o path d p q)
-settles {modules} {kind} low found high h (frames.Else c a ∷ k) before ts (under {before = b} u opened (else_begun {ts = cs} {us = us} at to adm e f)) o path d p q =
+    (stays (under u opened (infix_begun at s is adm e)) o path type d p q)
+settles {modules} {kind} low found high h (frames.Else c a ∷ k) before ts (under {before = b} u opened (else_begun {ts = cs} {us = us} at to adm e f)) o path type d p q =
     choose (λ x. Over modules kind low x (b ++ (cs ++ sign at signs.Question ∷ (us ++ sign to signs.Colon ∷ [])) ++ ts)) (fits low levels.Conditional) _ _
     (λ fit. over-text
     (settles low levels.Conditional high (heads.Plain (conditional_of c a (node h))) k b (cs ++ sign at signs.Question ∷ (us ++ sign to signs.Colon ∷ ts)) u
-    (opens-more modules k _ ts _ opened (with-signs cs us ts (sign at signs.Question) (sign to signs.Colon))) (λ g z. no-path z) (conditional at to e f (tighter (q refl) d)) fit (λ a. adm))
+    (opens-more modules k _ ts _ opened (with-signs cs us ts (sign at signs.Question) (sign to signs.Colon))) (λ g z. no-path z) (λ g z. no-path z) (conditional at to e f (tighter (q refl) d)) fit (λ a. adm))
     (sym (append_assoc b _ ts ∙ ap (λ x. b ++ x) (with-signs cs us ts (sign at signs.Question) (sign to signs.Colon)))))
-    (stays (under u opened (else_begun at to adm e f)) o path d p q)
-settles low found high h (frames.Then c ∷ k) before ts u o path d p q = stays u o path d p q
-settles low found high h (frames.Group a types ∷ k) before ts u o path d p q = stays u o path d p q
-settles low found high h (frames.Call f g ∷ k) before ts u o path d p q = stays u o path d p q
-settles low found high h (frames.Signature form f ps ∷ k) before ts u o path d p q = stays u o path d p q
-settles low found high h (frames.TypeOf x a ∷ k) before ts u o path d p q = stays u o path d p q
-settles low found high h (frames.FunctionName ∷ k) before ts u o path d p q = stays u o path d p q
-settles low found high h (frames.Parent header ∷ k) before ts u o path d p q = stays u o path d p q
-settles low found high h (frames.Fields mutable x parent fs ∷ k) before ts u o path d p q = stays u o path d p q
-settles low found high h (frames.DirectiveFun ∷ k) before ts u o path d p q = stays u o path d p q
-settles low found high h (frames.Types f types ∷ k) before ts u o path d p q = stays u o path d p q
-settles low found high h (frames.Hole purpose ∷ k) before ts u o path d p q = stays u o path d p q
-settles low found high h (frames.Block opener ss ∷ k) before ts u o path d p q = stays u o path d p q
-settles low found high h (frames.Branch c ss ∷ k) before ts u o path d p q = stays u o path d p q
-settles low found high h (frames.Payload m quoted ∷ k) before ts u o path d p q = stays u o path d p q
-settles low found high h (frames.Items root is ∷ k) before ts u o path d p q = stays u o path d p q
+    (stays (under u opened (else_begun at to adm e f)) o path type d p q)
+settles low found high h (frames.Then c ∷ k) before ts u o path type d p q = stays u o path type d p q
+settles low found high h (frames.Group a types ∷ k) before ts u o path type d p q = stays u o path type d p q
+settles low found high h (frames.Call f g ∷ k) before ts u o path type d p q = stays u o path type d p q
+settles low found high h (frames.Signature form f ps ∷ k) before ts u o path type d p q = stays u o path type d p q
+settles low found high h (frames.TypeOf x a ∷ k) before ts u o path type d p q = stays u o path type d p q
+settles low found high h (frames.FunctionName ∷ k) before ts u o path type d p q = stays u o path type d p q
+settles low found high h (frames.Parent header ∷ k) before ts u o path type d p q = stays u o path type d p q
+settles low found high h (frames.Fields mutable x parent fs ∷ k) before ts u o path type d p q = stays u o path type d p q
+settles low found high h (frames.DirectiveFun ∷ k) before ts u o path type d p q = stays u o path type d p q
+settles low found high h (frames.Types f types ∷ k) before ts u o path type d p q = stays u o path type d p q
+settles low found high h (frames.Hole purpose ∷ k) before ts u o path type d p q = stays u o path type d p q
+settles low found high h (frames.Block opener ss ∷ k) before ts u o path type d p q = stays u o path type d p q
+settles low found high h (frames.Branch c ss ∷ k) before ts u o path type d p q = stays u o path type d p q
+settles low found high h (frames.Payload m quoted ∷ k) before ts u o path type d p q = stays u o path type d p q
+settles low found high h (frames.Items root is ∷ k) before ts u o path type d p q = stays u o path type d p q

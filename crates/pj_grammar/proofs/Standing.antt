@@ -116,7 +116,7 @@ is_signature (frames.Signature form f ps ∷ k) = true
 is_signature _ = false
 
 abbrev pub is_payload : List Frame → Bool
-is_payload (frames.Payload m quoted ∷ k) = true
+is_payload (frames.Payload None quoted ∷ k) = true
 is_payload _ = false
 
 abbrev pub is_fields : List Frame → Bool

@@ -4,6 +4,7 @@ use Rattle.pj_grammar.proofs.Determined.{none-begins, one-tree}
 use Rattle.pj_grammar.proofs.Expressions.{reads}
 use Rattle.pj_grammar.proofs.Holes.{line-ends-here}
 use Rattle.pj_grammar.proofs.Nesting.{need-nesting}
+use Rattle.pj_grammar.proofs.Sounding.{sound}
 use Rattle.pj_grammar.proofs.Whole.{whole}
 use Rattle.pj_grammar.proofs.Written.{statement}
 use Rattle.pj_grammar.proofs.grammar_laws.grammar_laws.Goals as goal
@@ -20,6 +21,9 @@ each-text modules kind ts tree nesting d = whole refl d
 
 pub returns-clause-complete : goal.returns-clause-complete
 returns-clause-complete c = each-text
+
+pub returns-clause-sound : goal.returns-clause-sound
+returns-clause-sound c = sound
 
 pub returns-clause-one_tree : goal.returns-clause-one_tree
 returns-clause-one_tree c = one-tree each-text
