@@ -17,13 +17,16 @@ pub mod Follow
 pub mod Holding
 pub mod Holes
 pub mod Joining
+pub mod Lasting
 pub mod Levels
 pub mod Nesting
 pub mod Operating
 pub mod Parameters
 pub mod Payloads
 pub mod Reading
+pub mod Settled
 pub mod Settling
+pub mod Stacks
 pub mod Standing
 pub mod Statements
 pub mod Stepping
