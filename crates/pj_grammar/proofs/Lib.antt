@@ -4,6 +4,7 @@ pub mod Begin
 pub mod Begun
 pub mod Blocks
 pub mod Calling
+pub mod Climbing
 pub mod Computing
 pub mod Determined
 pub mod Directives
@@ -20,6 +21,7 @@ pub mod Joining
 pub mod Lasting
 pub mod Levels
 pub mod Nesting
+pub mod Onward
 pub mod Operating
 pub mod Parameters
 pub mod Payloads
