@@ -3,34 +3,30 @@ use Rattle.std.proofs.Common.{◌≡◌, ◌≤◌, ◌+◌, arith, max, ℕ, Bo
 use Rattle.std.specs.Str.{bytes_eq}
 use Rattle.pj_lex.specs.declared.sign.Sign.{Sign}
 use Rattle.pj_lex.specs.declared.sign.Sign.TheVariants as signs
-use Rattle.pj_syntax.specs.declared.expression.Spot.{Spot}
 use Rattle.pj_syntax.specs.declared.expression.Path.{Path}
 use Rattle.pj_syntax.specs.declared.expression.Path.TheVariants as paths
 use Rattle.pj_syntax.specs.declared.statement.Param.{Param}
 use Rattle.pj_grammar.specs.declared.level.Level.{Level}
 use Rattle.pj_grammar.specs.declared.level.Level.TheVariants as levels
-use Rattle.pj_grammar.specs.declared.level.Operator.{Operator}
 use Rattle.pj_grammar.specs.declared.node.Node.{Node}
-use Rattle.pj_grammar.specs.declared.frame.Form.TheVariants as forms
 use Rattle.pj_grammar.specs.declared.frame.Frame.{Frame}
 use Rattle.pj_grammar.specs.declared.frame.Frame.TheVariants as frames
 use Rattle.pj_grammar.specs.declared.frame.Given.{Given}
 use Rattle.pj_grammar.specs.declared.frame.Given.TheVariants as given
 use Rattle.pj_grammar.specs.declared.frame.Purpose.TheVariants as purposes
-use Rattle.pj_grammar.specs.declared.frame.Target.TheVariants as targets
 use Rattle.pj_grammar.specs.declared.mode.Head.{Head}
 use Rattle.pj_grammar.specs.declared.mode.Head.TheVariants as heads
 use Rattle.pj_grammar.specs.declared.mode.Mode.TheVariants as modes
-use Rattle.pj_grammar.specs.Frames.{Settled, State, admits, at, give, guarded, head_path, is_value, node, settle, takes_definition, takes_directives, takes_items, takes_lines}
-use Rattle.pj_grammar.specs.Levels.{fits, level_of, left_of}
+use Rattle.pj_grammar.specs.Frames.{Settled, State, admits, at, give, guarded, head_path, is_value, node, takes_definition, takes_directives, takes_items, takes_lines}
+use Rattle.pj_grammar.specs.Levels.{fits}
 use Rattle.pj_grammar.specs.Makers.{argument_after, argument_before, call_of, field_of, infix_height, lacks, name_of, no_arguments, paths_given}
 use Rattle.pj_grammar.specs.Modules.{Modules, is_module}
 use Rattle.pj_grammar.specs.Need.{depth, given_nesting, head_nesting, need, need_at, place_nesting}
-use Rattle.pj_grammar.specs.Operands.{ask, define, extend, have_assign, have_dot, have_paren, open_apart, open_call, open_direct}
+use Rattle.pj_grammar.specs.Operands.{ask, define, extend, have_dot, have_paren, open_apart, open_call, open_direct}
 use Rattle.pj_grammar.proofs.Levels.{Binary, absurd-of, and, comparison, or, product, sum}
 use Rattle.pj_grammar.proofs.Settled.{Ended, guard-rises}
 use Rattle.pj_grammar.proofs.Lasting.{flat}
-use Rattle.pj_grammar.proofs.Stacks.{HeadOver, Rise, Rises, Stack, takes_expression, takes_name, takes_path}
+use Rattle.pj_grammar.proofs.Stacks.{HeadOver, Rise, Stack, takes_expression, takes_name, takes_path}
 
 pub if-rises : (n : ℕ) (b : Bool) (x y : Option State) → (b ≡ true → Rise n x) → (b ≡ false → Rise n y) → Rise n (if b then x else y)
 if-rises n true x y f g = f refl

@@ -1,5 +1,5 @@
 -- Where statements, items and blocks end, the frames stay well stacked and the need doesn't fall.
-use Rattle.std.proofs.Common.{◌≡◌, ◌≤◌, ◌+◌, arith, max, ℕ, Bool, true, false, List, [], ◌∷◌, Option, Some, None, refl}
+use Rattle.std.proofs.Common.{◌≡◌, ◌≤◌, ◌+◌, arith, max, ℕ, true, false, List, [], ◌∷◌, Option, Some, None, refl}
 use Rattle.pj_words.specs.declared.word.Word.TheVariants as words
 use Rattle.pj_lex.specs.declared.sign.Sign.{Sign}
 use Rattle.pj_lex.specs.declared.sign.Sign.TheVariants as signs
@@ -23,7 +23,7 @@ use Rattle.pj_grammar.specs.Frames.{State, takes_items, takes_lines}
 use Rattle.pj_grammar.specs.Makers.{Entry, Evaluated, Method, assign_of, entry_after, eval_of, field_of, for_of, if_of, infix_height, infix_of, line_after, line_before, method_defined, method_evaluated, method_of, name_of, no_lines, one_line, run_of, set_evaluated, value_evaluated, value_of, while_of}
 use Rattle.pj_grammar.specs.Need.{Depth, assign_depth, depth, mode_nesting, need, need_at, opener_depth}
 use Rattle.pj_grammar.proofs.Levels.{absurd-of}
-use Rattle.pj_grammar.proofs.Stacks.{AssignOver, Good, Rise, Rises, Stack, is_empty}
+use Rattle.pj_grammar.proofs.Stacks.{AssignOver, Good, Rise, Stack}
 
 -- one statement more
 line-below : (n : ℕ) (o : Opener) (ss : Lines) (s : Line) (d : Depth) → n ≤ need_at s.nesting (opener_depth o ss.nesting d)

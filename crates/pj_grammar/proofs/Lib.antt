@@ -26,6 +26,7 @@ pub mod Operating
 pub mod Parameters
 pub mod Payloads
 pub mod Reading
+pub mod Rising
 pub mod Settled
 pub mod Settling
 pub mod Stacks

@@ -1,5 +1,5 @@
 -- From an operand on, the frames stay well stacked and the need doesn't fall: parameters, fields, types, calls and what ends an expression.
-use Rattle.std.proofs.Common.{◌≡◌, ◌≤◌, ◌+◌, arith, max, ℕ, Bool, true, false, ◌&&◌, List, [], ◌∷◌, ◌++◌, if◌then◌else◌, Option, Some, None, refl, ◌∙◌, codes}
+use Rattle.std.proofs.Common.{◌≡◌, ◌≤◌, ◌+◌, arith, max, ℕ, Bool, true, false, List, [], ◌∷◌, ◌++◌, if◌then◌else◌, Option, Some, None, refl, ◌∙◌, codes}
 use Rattle.std.specs.Str.{bytes_eq}
 use Rattle.pj_words.specs.declared.word.Word.TheVariants as words
 use Rattle.pj_lex.specs.declared.sign.Sign.{Sign}
@@ -10,10 +10,8 @@ use Rattle.pj_syntax.specs.declared.expression.Spot.{Spot}
 use Rattle.pj_syntax.specs.declared.expression.Path.{Path}
 use Rattle.pj_syntax.specs.declared.expression.Path.TheVariants as paths
 use Rattle.pj_syntax.specs.declared.statement.Param.{Param}
-use Rattle.pj_grammar.specs.declared.level.Level.{Level}
 use Rattle.pj_grammar.specs.declared.level.Level.TheVariants as levels
 use Rattle.pj_grammar.specs.declared.node.Node.{Node}
-use Rattle.pj_grammar.specs.declared.frame.Form.{Form}
 use Rattle.pj_grammar.specs.declared.frame.Form.TheVariants as forms
 use Rattle.pj_grammar.specs.declared.frame.Frame.{Frame}
 use Rattle.pj_grammar.specs.declared.frame.Frame.TheVariants as frames
@@ -21,27 +19,25 @@ use Rattle.pj_grammar.specs.declared.frame.Given.{Given}
 use Rattle.pj_grammar.specs.declared.frame.Given.TheVariants as given
 use Rattle.pj_grammar.specs.declared.frame.Header.{Header}
 use Rattle.pj_grammar.specs.declared.frame.Header.TheVariants as headers
-use Rattle.pj_grammar.specs.declared.frame.Opener.TheVariants as openers
 use Rattle.pj_grammar.specs.declared.frame.Purpose.{Purpose}
 use Rattle.pj_grammar.specs.declared.frame.Purpose.TheVariants as purposes
 use Rattle.pj_grammar.specs.declared.frame.Target.TheVariants as targets
 use Rattle.pj_grammar.specs.declared.mode.Head.{Head}
 use Rattle.pj_grammar.specs.declared.mode.Head.TheVariants as heads
 use Rattle.pj_grammar.specs.declared.mode.Mode.TheVariants as modes
-use Rattle.pj_grammar.specs.Closing.{after_end, closed_entry, closed_line, closed_method}
-use Rattle.pj_grammar.specs.Frames.{Settled, State, at, give, guarded, head_path, is_value, node, params_of, settle, takes_definition, takes_directives, takes_items, takes_lines, takes_short}
-use Rattle.pj_grammar.specs.Levels.{level_of, left_of}
-use Rattle.pj_grammar.specs.Makers.{abstract_of, argument_after, call_of, const_of, declared, field_of, group_of, infix_height, lacks, line_before, method_of, name_of, no_lines, paths_given, return_of, short_method, struct_of, value_of}
+use Rattle.pj_grammar.specs.Frames.{at, give, head_path, is_value, node, params_of, settle, takes_definition, takes_directives, takes_items, takes_lines, takes_short}
+use Rattle.pj_grammar.specs.Levels.{left_of}
+use Rattle.pj_grammar.specs.Makers.{abstract_of, call_of, const_of, declared, field_of, group_of, infix_height, lacks, line_before, method_of, name_of, no_lines, paths_given, return_of, short_method, struct_of, value_of}
 use Rattle.pj_grammar.specs.Modules.{Modules}
 use Rattle.pj_grammar.specs.Need.{depth, given_nesting, head_nesting, need, need_at, place_nesting}
-use Rattle.pj_grammar.specs.Operands.{Next, add_name, add_param, after_argument, after_field, after_function, after_group, after_header, after_param, after_path, after_purpose, after_type, assignment, begin_type, begin_types, close_call, close_paths, dot, end_fields, end_params, finish, finish_at, have, have_assign, have_first, have_next, have_other, have_path, have_type, have_value, infix_, is_plain, is_type_word, next, next_infix, next_sign, other, paren, question, start_field, type, type_of_param, type_path}
-use Rattle.pj_grammar.specs.Statements.{operator_at}
+use Rattle.pj_grammar.specs.Operands.{Next, add_name, add_param, after_argument, after_field, after_function, after_group, after_header, after_param, after_path, after_purpose, after_type, assignment, begin_type, begin_types, close_call, close_paths, dot, end_fields, end_params, finish, finish_at, have, have_assign, have_first, have_next, have_other, have_path, have_type, have_value, infix_, is_plain, is_type_word, next, next_sign, other, paren, question, start_field, type, type_of_param, type_path}
+use Rattle.pj_grammar.specs.Statements.{assigning, operator_at}
 use Rattle.pj_grammar.specs.Tokens.{Place}
 use Rattle.pj_grammar.proofs.Levels.{Binary, absurd-of, and, comparison, or, product, sum}
 use Rattle.pj_grammar.proofs.Climbing.{and-right, ask-rises, call-head-high, call-head-low, define-rises, directives-items, dot-rises, extend-rises, give-low, if-rises, paren-rises, some-node, value-rises-here}
 use Rattle.pj_grammar.proofs.Lasting.{after-end-rises, entry-rises, flat, line-rises, method-rises, set-rises, value-rises}
 use Rattle.pj_grammar.proofs.Settled.{Ended, ended, guard-rises}
-use Rattle.pj_grammar.proofs.Stacks.{AssignOver, GroupOver, HeadOver, Over, Rise, Rises, Stack, is_fields, is_signature, takes_expression, takes_set, takes_type}
+use Rattle.pj_grammar.proofs.Stacks.{GroupOver, HeadOver, Over, Rise, Stack, is_fields, is_signature, takes_expression, takes_set}
 
 -- Types of parameters and fields.
 pub type-of-rises : (n : ℕ) (x : Option Spot) (p : ℕ) (f : Path) (ps : Option (List Param)) (k : List Frame) → Stack k → n ≤ need_at 4 (depth k)
@@ -249,7 +245,7 @@ place-exact e k h = branch (takes_lines k) h
     branch true h = refl
     branch false h = absurd-of h
 
-abbrev OneHigh : Option Sign → Type 0
+abbrev pub OneHigh : Option Sign → Type 0
 OneHigh None = Unit {0}
 OneHigh (Some s) = infix_height s ≡ 1
 
@@ -346,3 +342,14 @@ next-rises n modules h k p kind other fit st o r = other-rises n h k p.start kin
 pub have-rises : (n : ℕ) (modules : Modules) (h : Head) (k : List Frame) (p : Place) (kind : TokenKind) → Stack k → HeadOver h k
     → n ≤ need_at (head_nesting h k) (depth k) → Rise n (have modules h k p kind)
 have-rises n modules h k p kind st o r = next-rises n modules h k p kind (next kind) (next-fits kind) st o r
+
+-- the operators of assignments
+abbrev pub AllHigh : Option (Option Sign) → Type 0
+AllHigh None = Unit {0}
+AllHigh (Some o) = OneHigh o
+
+pub all-high : (s : Sign) → AllHigh (assigning s)
+all-high signs.AddAssign = refl
+all-high signs.SubtractAssign = refl
+all-high signs.MultiplyAssign = refl
+all-high s = tt

@@ -1,5 +1,5 @@
 -- Operators that end: the operand that is left stands over well stacked frames, and needs no less.
-use Rattle.std.proofs.Common.{◌≡◌, ◌≤◌, ◌+◌, arith, max, ℕ, Bool, true, false, List, [], ◌∷◌, if◌then◌else◌, Option, Some, None, refl}
+use Rattle.std.proofs.Common.{◌≡◌, ◌≤◌, arith, ℕ, Bool, true, false, List, [], ◌∷◌, if◌then◌else◌, Option, refl}
 use Rattle.pj_grammar.specs.declared.level.Level.{Level}
 use Rattle.pj_grammar.specs.declared.level.Level.TheVariants as levels
 use Rattle.pj_grammar.specs.declared.frame.Frame.{Frame}
@@ -8,7 +8,7 @@ use Rattle.pj_grammar.specs.declared.mode.Head.{Head}
 use Rattle.pj_grammar.specs.declared.mode.Head.TheVariants as heads
 use Rattle.pj_grammar.specs.Frames.{Settled, State, guarded, node, settle}
 use Rattle.pj_grammar.specs.Levels.{fits}
-use Rattle.pj_grammar.specs.Makers.{conditional_of, infix_height, infix_of, prefix_of}
+use Rattle.pj_grammar.specs.Makers.{conditional_of, infix_of, prefix_of}
 use Rattle.pj_grammar.specs.Need.{depth, need_at}
 use Rattle.pj_grammar.proofs.Stacks.{Rise, Stack}
 

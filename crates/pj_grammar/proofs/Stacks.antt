@@ -1,7 +1,6 @@
 -- What holds of the frames and the mode wherever the machine stands, whatever it has read: each frame stands over one that takes
 -- it, and the mode over one that it can end in. `Rise n s` says that, where there is a state, it stands so and needs no less than n.
 use Rattle.std.proofs.Common.{◌≡◌, ◌≤◌, ℕ, Bool, true, false, List, [], ◌∷◌, Option, Some, None}
-use Rattle.pj_grammar.specs.declared.node.Node.{Node}
 use Rattle.pj_grammar.specs.declared.level.Operator.{Operator}
 use Rattle.pj_grammar.specs.declared.frame.Form.TheVariants as forms
 use Rattle.pj_grammar.specs.declared.frame.Frame.{Frame}

@@ -4,6 +4,7 @@ use Rattle.pj_grammar.proofs.Determined.{none-begins, one-tree}
 use Rattle.pj_grammar.proofs.Expressions.{reads}
 use Rattle.pj_grammar.proofs.Holes.{line-ends-here}
 use Rattle.pj_grammar.proofs.Nesting.{need-nesting}
+use Rattle.pj_grammar.proofs.Rising.{monotone}
 use Rattle.pj_grammar.proofs.Whole.{whole}
 use Rattle.pj_grammar.proofs.Written.{statement}
 use Rattle.pj_grammar.proofs.grammar_laws.grammar_laws.Goals as goal
@@ -29,3 +30,6 @@ returns-clause-none_begins c = none-begins each-text
 
 pub returns-clause-need_is_nesting : goal.returns-clause-need_is_nesting
 returns-clause-need_is_nesting c = λ s tree nesting. need-nesting s.mode s.frames tree nesting
+
+pub returns-clause-monotone : goal.returns-clause-monotone
+returns-clause-monotone c = monotone
