@@ -19,6 +19,7 @@ pub mod Holding
 pub mod Holes
 pub mod Joining
 pub mod Lasting
+pub mod Leading
 pub mod Levels
 pub mod Nesting
 pub mod Onward

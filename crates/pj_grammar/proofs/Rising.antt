@@ -179,17 +179,17 @@ path-start-rises n k p (kinds.Name x) st g r = record { stack = st; good = g; ri
 path-start-rises n k p kind st g r = tt
 
 -- Statements and items begin.
-lines-value : (k : List Frame) → takes_lines k ≡ true → takes_value k ≡ true
+pub lines-value : (k : List Frame) → takes_lines k ≡ true → takes_value k ≡ true
 lines-value (frames.Block o ss ∷ k) h = refl
 lines-value (frames.Items root is ∷ k) h = refl
 lines-value k h = absurd-of h
 
-lines-if : (k : List Frame) → takes_lines k ≡ true → takes_if k ≡ true
+pub lines-if : (k : List Frame) → takes_lines k ≡ true → takes_if k ≡ true
 lines-if (frames.Block o ss ∷ k) h = refl
 lines-if (frames.Items root is ∷ k) h = refl
 lines-if k h = absurd-of h
 
-items-definition : (k : List Frame) → takes_items k ≡ true → takes_definition k ≡ true
+pub items-definition : (k : List Frame) → takes_items k ≡ true → takes_definition k ≡ true
 items-definition (frames.Items root is ∷ k) h = refl
 items-definition k h = absurd-of h
 
@@ -225,7 +225,7 @@ line-begins n k p kinds.Eof st takes r = ending-rises n k kinds.Eof st r
 line-begins n k p kind st takes r = statement-operand-rises n k p kind st takes r
 
 -- What is evaluated.
-payload-value : (k : List Frame) → is_payload k ≡ true → takes_value k ≡ true
+pub payload-value : (k : List Frame) → is_payload k ≡ true → takes_value k ≡ true
 payload-value (frames.Payload m quoted ∷ k) h = refl
 payload-value k h = absurd-of h
 
@@ -293,7 +293,7 @@ global-rises n at' x k p (kinds.Sign s) st takes r = set-global-rises n at' x k 
 global-rises n at' x k p kind st takes r = tt
 
 -- Uses.
-uses-items : (k : List Frame) → takes_uses k ≡ true → takes_items k ≡ true
+pub uses-items : (k : List Frame) → takes_uses k ≡ true → takes_items k ≡ true
 uses-items (frames.Items root is ∷ k) h = refl
 uses-items k h = absurd-of h
 
