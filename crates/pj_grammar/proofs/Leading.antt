@@ -23,6 +23,7 @@ use Rattle.pj_grammar.specs.declared.frame.Root.{Root}
 use Rattle.pj_grammar.specs.declared.frame.Root.TheVariants as roots
 use Rattle.pj_grammar.specs.declared.frame.Target.{Target}
 use Rattle.pj_grammar.specs.declared.frame.Target.TheVariants as targets
+use Rattle.pj_grammar.specs.declared.mode.Head.TheVariants as heads
 use Rattle.pj_grammar.specs.declared.mode.Mode.{Mode}
 use Rattle.pj_grammar.specs.declared.mode.Mode.TheVariants as modes
 use Rattle.pj_grammar.specs.declared.mode.Parsed.{Parsed}
@@ -155,3 +156,96 @@ line-ends modules limit s (frames.Block (openers.Function f ps) ss ∷ k) st tak
 line-ends modules limit s (frames.Items root is ∷ []) st takes h = items-end modules limit root (entry_after is (run_of s)) (grind arith)
 line-ends modules limit s (frames.Items root is ∷ f ∷ k) st takes h = absurd-of st.0
 line-ends modules limit s k st takes h = absurd-of takes
+
+-- What is evaluated ends, and so `@eval`.
+pub evaluated-ends : (modules : Modules) (limit : ℕ) (y : Evaluated) (m : Option Spot) (quoted : Bool) (k : List Frame) → Stack (frames.Payload m quoted ∷ k)
+    → need_at y.nesting (depth (frames.Payload m quoted ∷ k)) ≤ limit → Ends modules limit (after_end (closed_evaluated y (frames.Payload m quoted ∷ k)))
+unfolding depth eval_of
+evaluated-ends modules limit y m false k st h = line-ends modules limit (eval_of m y) k st.1 (lines-if k st.0) (grind arith)
+evaluated-ends modules limit y m true k st h =
+    let e : Ends modules limit (after_end (closed_line (eval_of m y) k)) = line-ends modules limit (eval_of m y) k st.1 (lines-if k st.0) (grind arith) in
+    record { last = kinds.Sign signs.RightParen; stops = a_close; leads = quoted-leads (eval_of m y) k (closed (closed_line (eval_of m y) k) e) }
+
+pub method-ends : (modules : Modules) (limit : ℕ) (f : Method) (k : List Frame) → Stack k → takes_definition k ≡ true → need_at f.nesting (depth k) ≤ limit
+    → Ends modules limit (after_end (closed_method f k))
+unfolding method_evaluated method_defined
+method-ends modules limit f (frames.Payload m quoted ∷ k) st takes h = evaluated-ends modules limit (method_evaluated f) m quoted k st h
+method-ends modules limit f (frames.Items root is ∷ k) st takes h = entry-ends modules limit (method_defined f) (frames.Items root is ∷ k) st refl h
+method-ends modules limit f k st takes h = absurd-of takes
+
+pub value-ends : (modules : Modules) (limit : ℕ) (e : Node) (k : List Frame) → Stack k → takes_value k ≡ true → need_at (1 + e.nesting) (depth k) ≤ limit
+    → Ends modules limit (after_end (closed_value e k))
+unfolding value_evaluated value_of
+value-ends modules limit e (frames.Payload m quoted ∷ k) st takes h = evaluated-ends modules limit (value_evaluated e) m quoted k st h
+value-ends modules limit e (frames.Block o ss ∷ k) st takes h = line-ends modules limit (value_of e) (frames.Block o ss ∷ k) st refl h
+value-ends modules limit e (frames.Items root is ∷ k) st takes h = line-ends modules limit (value_of e) (frames.Items root is ∷ k) st refl h
+value-ends modules limit e k st takes h = absurd-of takes
+
+-- An assignment nests no deeper than it was told to.
+assign-within : (limit : ℕ) (target : Target) (o : Option Operator) (e : Node) (k : List Frame) → AssignOver target o k
+    → need_at e.nesting (assign_depth target o (depth k)) ≤ limit → need_at (assign_of target o e).nesting (depth k) ≤ limit
+unfolding assign_of field_of name_of infix_of
+assign-within limit (targets.Local x) None e k a h = grind arith
+assign-within limit (targets.Local x) (Some o) e k a h = let p : infix_height o.sign ≡ 1 = a.1 in grind arith
+assign-within limit (targets.Field b x) None e k a h = grind arith
+assign-within limit (targets.Field b x) (Some o) e k a h = let p : infix_height o.sign ≡ 1 = a.1 in grind arith
+assign-within limit (targets.Global p' x) None e k a h = grind arith
+assign-within limit (targets.Global p' x) (Some o) e k a h = let p : infix_height o.sign ≡ 1 = a.1 in grind arith
+
+set-line : (target : Target) (o : Option Operator) (k : List Frame) → AssignOver target o k → takes_lines k ≡ true → (e : Node) → closed_set target o e k ≡ closed_line (assign_of target o e) k
+set-line (targets.Local x) o (frames.Block b ss ∷ k) a t e = refl
+set-line (targets.Local x) o (frames.Items root is ∷ k) a t e = refl
+set-line (targets.Local x) o k a t e = absurd-of t
+set-line (targets.Field b x) o k a t e = refl
+set-line (targets.Global p' x) o k a t e = refl
+
+lined-set : (modules : Modules) (limit : ℕ) (target : Target) (o : Option Operator) (e : Node) (k : List Frame) → Stack k → AssignOver target o k → takes_lines k ≡ true
+    → need_at e.nesting (assign_depth target o (depth k)) ≤ limit → Ends modules limit (after_end (closed_set target o e k))
+lined-set modules limit target o e k st a t h =
+    subst (λ s. Ends modules limit (after_end s)) (sym (set-line target o k a t e))
+    (line-ends modules limit (assign_of target o e) k st (lines-if k t) (assign-within limit target o e k a h))
+
+pub set-ends : (modules : Modules) (limit : ℕ) (target : Target) (o : Option Operator) (e : Node) (k : List Frame) → Stack k → AssignOver target o k
+    → need_at e.nesting (assign_depth target o (depth k)) ≤ limit → Ends modules limit (after_end (closed_set target o e k))
+unfolding set_evaluated
+set-ends modules limit (targets.Local x) None e (frames.Payload m quoted ∷ k) st a h = evaluated-ends modules limit (set_evaluated x e) m quoted k st (grind arith)
+set-ends modules limit (targets.Local x) None e k st a h = lined-set modules limit (targets.Local x) None e k st a a h
+set-ends modules limit (targets.Field b x) None e k st a h = lined-set modules limit (targets.Field b x) None e k st a a h
+set-ends modules limit (targets.Global p' x) None e k st a h = lined-set modules limit (targets.Global p' x) None e k st a a h
+set-ends modules limit target (Some o) e k st a h = lined-set modules limit target (Some o) e k st a a.0 h
+
+-- What an expression is for.
+pub purpose-ends : (modules : Modules) (limit : ℕ) (purpose : Purpose) (e : Node) (k : List Frame) → Stack (frames.Hole purpose ∷ k) → 1 ≤ e.nesting
+    → need_at e.nesting (depth (frames.Hole purpose ∷ k)) ≤ limit → Ends modules limit (after_purpose purpose e k)
+unfolding depth return_of const_of method_of line_before value_of no_lines if_of while_of for_of settle leaf
+purpose-ends modules limit purposes.Value e k st some h = value-ends modules limit e k st.1 st.0 (grind arith)
+purpose-ends modules limit (purposes.Assign target o) e k st some h = set-ends modules limit target o e k st.1 st.0 h
+purpose-ends modules limit (purposes.Return p) e k st some h = line-ends modules limit (return_of p e) k st.1 (lines-if k st.0) (grind arith)
+purpose-ends modules limit (purposes.Const x) e k st some h = entry-ends modules limit (const_of x e) k st.1 st.0 (grind arith)
+purpose-ends modules limit (purposes.Short f ps) e k st some h = method-ends modules limit (short_method f ps e) k st.1 st.0 (grind arith)
+purpose-ends modules limit purposes.If e k st some h = record {
+  last = kinds.Separator;
+  stops = a_separator;
+  leads = step-leads modes.Line (frames.Block (openers.If e) no_lines ∷ k) (kinds.Reserved words.End)
+    (closed (closed_line (if_of e no_lines no_lines) k) (line-ends modules limit (if_of e no_lines no_lines) k st.1 st.0 (grind arith)));
+}
+purpose-ends modules limit purposes.While e k st some h = record {
+  last = kinds.Separator;
+  stops = a_separator;
+  leads = step-leads modes.Line (frames.Block (openers.While e) no_lines ∷ k) (kinds.Reserved words.End)
+    (closed (closed_line (while_of e no_lines) k) (line-ends modules limit (while_of e no_lines) k st.1 (lines-if k st.0) (grind arith)));
+}
+purpose-ends modules limit (purposes.To x a) e k st some h = record {
+  last = kinds.Separator;
+  stops = a_separator;
+  leads = step-leads modes.Line (frames.Block (openers.For x a e) no_lines ∷ k) (kinds.Reserved words.End)
+    (closed (closed_line (for_of x a e no_lines) k) (line-ends modules limit (for_of x a e no_lines) k st.1 (lines-if k st.0) (grind arith)));
+}
+purpose-ends modules limit (purposes.From x) e k st some h = record {
+  last = kinds.Sign signs.Colon;
+  stops = a_colon;
+  leads = step-leads modes.Want (frames.Hole (purposes.To x e) ∷ k) zero_kind
+    (step-leads (modes.Have (heads.Plain zero_node)) (frames.Hole (purposes.To x e) ∷ k) kinds.Separator
+    (step-leads modes.Line (frames.Block (openers.For x e zero_node) no_lines ∷ k) (kinds.Reserved words.End)
+    (closed (closed_line (for_of x e zero_node no_lines) k) (line-ends modules limit (for_of x e zero_node no_lines) k st.1 (lines-if k st.0) (grind arith)))));
+}
