@@ -88,14 +88,14 @@ lacks-none f (p ∷ ps) g = refl
 abbrev pub EndsAll : Modules → ℕ → List Frame → Type 0
 EndsAll modules limit k = (h : Head) → is_value h ≡ true → 1 ≤ (node h).nesting → need_at (node h).nesting (depth k) ≤ limit → Ends modules limit (whole h k)
 
-called-leads : (modules : Modules) (limit : ℕ) (f : Path) (ps : List Path) (k : List Frame) → lacks f (paths_given ps) ≡ false → takes_expression k ≡ true
+pub called-leads : (modules : Modules) (limit : ℕ) (f : Path) (ps : List Path) (k : List Frame) → lacks f (paths_given ps) ≡ false → takes_expression k ≡ true
     → need_at (1 + given_nesting (given.Paths ps)) (depth k) ≤ limit → EndsAll modules limit k → Leads modules limit (close_call f (given.Paths ps) k)
 unfolding call_of
 called-leads modules limit f ps k l takes h all =
     subst (λ b. Leads modules limit (close_paths f ps k b)) (sym l)
     (have-leads (heads.Call f ps) k takes (rw l refl) (all (heads.Call f ps) (rw l refl) (grind arith) (let e : (paths_given ps).nesting ≡ given_nesting (given.Paths ps) = paths-nest ps in grind arith)))
 
-mixed-leads : (modules : Modules) (limit : ℕ) (f : Path) (es : Arguments) (k : List Frame) → takes_expression k ≡ true
+pub mixed-leads : (modules : Modules) (limit : ℕ) (f : Path) (es : Arguments) (k : List Frame) → takes_expression k ≡ true
     → need_at (1 + es.nesting) (depth k) ≤ limit → EndsAll modules limit k → Leads modules limit (close_call f (given.Mixed es) k)
 unfolding call_of
 mixed-leads modules limit f es k takes h all = have-leads (heads.Plain (call_of f es)) k takes refl (all (heads.Plain (call_of f es)) refl (grind arith) (grind arith))

@@ -5,6 +5,7 @@ pub mod Begun
 pub mod Blocks
 pub mod Calling
 pub mod Climbing
+pub mod Completed
 pub mod Completing
 pub mod Computing
 pub mod Determined

@@ -238,7 +238,7 @@ name-adds-rises n (heads.Name x) k kind st r = add-rises n (record { at = x.at; 
 name-adds-rises n h k kind st r = tt
 
 -- An assignment.
-place-exact : (e : Node) (k : List Frame) → takes_lines k ≡ true → place_nesting e (frames.Hole purposes.Value ∷ k) ≡ e.nesting
+pub place-exact : (e : Node) (k : List Frame) → takes_lines k ≡ true → place_nesting e (frames.Hole purposes.Value ∷ k) ≡ e.nesting
 place-exact e k h = branch (takes_lines k) h
   where
     branch : (b : Bool) → b ≡ true → (if b then e.nesting else 1 + e.nesting) ≡ e.nesting
