@@ -44,24 +44,24 @@ use Rattle.pj_grammar.proofs.Rising.{lines-if, payload-value, uses-items}
 use Rattle.pj_grammar.proofs.Stacks.{Good, HeadOver, Stack, is_call, is_empty, is_fields, is_payload, is_short, is_signature, is_types, takes_expression, takes_name, takes_path}
 
 -- a name; where a module is used, one that every text has
-abbrev some_name : TokenKind
+abbrev pub some_name : TokenKind
 some_name = kinds.Name (codes "x")
 
-abbrev some_spot : Spot
+abbrev pub some_spot : Spot
 some_spot = spot here (codes "x")
 
-abbrev base_name : TokenKind
+abbrev pub base_name : TokenKind
 base_name = kinds.Name (codes "Base")
 
-abbrev base_spot : Spot
+abbrev pub base_spot : Spot
 base_spot = spot here (codes "Base")
 
 -- A list of statements or items ends.
-data ListEnds (modules : Modules) (limit : ℕ) (k : List Frame) : Type 0 where
+pub data ListEnds (modules : Modules) (limit : ℕ) (k : List Frame) : Type 0 where
   by_end : Leads modules limit (ending k (kinds.Reserved words.End)) → ListEnds modules limit k
   by_eof : Leads modules limit (ending k kinds.Eof) → ListEnds modules limit k
 
-lines-end : (modules : Modules) (limit : ℕ) (k : List Frame) → Stack k → takes_lines k ≡ true → need_at 0 (depth k) ≤ limit → ListEnds modules limit k
+pub lines-end : (modules : Modules) (limit : ℕ) (k : List Frame) → Stack k → takes_lines k ≡ true → need_at 0 (depth k) ≤ limit → ListEnds modules limit k
 unfolding depth if_of while_of for_of method_of no_lines run
 lines-end modules limit (frames.Block (openers.If c) ss ∷ k) st takes h =
     by_end (closed (closed_line (if_of c ss no_lines) k) (line-ends modules limit (if_of c ss no_lines) k st.1 st.0 (grind arith)))
@@ -85,41 +85,41 @@ line-list : {modules : Modules} {limit : ℕ} (k : List Frame) → ListEnds modu
 line-list k (by_end l) = step-leads modes.Line k (kinds.Reserved words.End) l
 line-list k (by_eof l) = step-leads modes.Line k kinds.Eof l
 
-closed-list : {modules : Modules} {limit : ℕ} (k : List Frame) → ListEnds modules limit k → Leads modules limit (at modes.Closed k)
+pub closed-list : {modules : Modules} {limit : ℕ} (k : List Frame) → ListEnds modules limit k → Leads modules limit (at modes.Closed k)
 closed-list k (by_end l) = step-leads modes.Closed k (kinds.Reserved words.End) l
 closed-list k (by_eof l) = step-leads modes.Closed k kinds.Eof l
 
-line-leads : (modules : Modules) (limit : ℕ) (k : List Frame) → Stack k → takes_lines k ≡ true → need_at 0 (depth k) ≤ limit → Leads modules limit (at modes.Line k)
+pub line-leads : (modules : Modules) (limit : ℕ) (k : List Frame) → Stack k → takes_lines k ≡ true → need_at 0 (depth k) ≤ limit → Leads modules limit (at modes.Line k)
 line-leads modules limit k st takes h = line-list k (lines-end modules limit k st takes h)
 
 -- An item ends.
-entry-leads : (modules : Modules) (limit : ℕ) (i : Entry) (k : List Frame) → Stack k → takes_items k ≡ true → i.nesting ≡ 0 → need_at 0 (depth k) ≤ limit
+pub entry-leads : (modules : Modules) (limit : ℕ) (i : Entry) (k : List Frame) → Stack k → takes_items k ≡ true → i.nesting ≡ 0 → need_at 0 (depth k) ≤ limit
     → Leads modules limit (closed_entry i k)
 entry-leads modules limit i k st takes none h = closed (closed_entry i k) (entry-ends modules limit i k st takes (grind arith))
 
 -- Expressions.
-value-leads : (modules : Modules) (limit : ℕ) (h : Head) (k : List Frame) → Stack k → takes_expression k ≡ true → is_value h ≡ true → 1 ≤ (node h).nesting
+pub value-leads : (modules : Modules) (limit : ℕ) (h : Head) (k : List Frame) → Stack k → takes_expression k ≡ true → is_value h ≡ true → 1 ≤ (node h).nesting
     → need_at (node h).nesting (depth k) ≤ limit → Leads modules limit (at (modes.Have h) k)
 value-leads modules limit h k st takes v some r = have-leads h k takes v (expression-ends modules limit k st takes h v some r)
 
-zero-leads : (modules : Modules) (limit : ℕ) (k : List Frame) → Stack k → takes_expression k ≡ true → need_at 1 (depth k) ≤ limit
+pub zero-leads : (modules : Modules) (limit : ℕ) (k : List Frame) → Stack k → takes_expression k ≡ true → need_at 1 (depth k) ≤ limit
     → Leads modules limit (at (modes.Have (heads.Plain zero_node)) k)
 unfolding leaf
 zero-leads modules limit k st takes r = value-leads modules limit (heads.Plain zero_node) k st takes refl (grind arith) r
 
-want-leads : (modules : Modules) (limit : ℕ) (k : List Frame) → Stack k → takes_expression k ≡ true → need_at 1 (depth k) ≤ limit
+pub want-leads : (modules : Modules) (limit : ℕ) (k : List Frame) → Stack k → takes_expression k ≡ true → need_at 1 (depth k) ≤ limit
     → Leads modules limit (at modes.Want k)
 want-leads modules limit k st takes r = step-leads modes.Want k zero_kind (zero-leads modules limit k st takes r)
 
 -- Parameters.
-short-leads : (modules : Modules) (limit : ℕ) (k : List Frame) → Stack k → is_short k ≡ true → need_at 1 (depth k) ≤ limit → Leads modules limit (at modes.ShortAssign k)
+pub short-leads : (modules : Modules) (limit : ℕ) (k : List Frame) → Stack k → is_short k ≡ true → need_at 1 (depth k) ≤ limit → Leads modules limit (at modes.ShortAssign k)
 unfolding depth
 short-leads modules limit (frames.Signature forms.Short f ps ∷ k) st is r =
     step-leads modes.ShortAssign (frames.Signature forms.Short f ps ∷ k) (kinds.Sign signs.Assign) (want-leads modules limit (frames.Hole (purposes.Short f ps) ∷ k) st refl r)
 short-leads modules limit (frames.Signature forms.Long f ps ∷ k) st is r = absurd-of is
 short-leads modules limit k st is r = absurd-of is
 
-signature-leads : (modules : Modules) (limit : ℕ) (form : Form) (f : Path) (ps : List Param) (k : List Frame) → Stack (frames.Signature form f ps ∷ k)
+pub signature-leads : (modules : Modules) (limit : ℕ) (form : Form) (f : Path) (ps : List Param) (k : List Frame) → Stack (frames.Signature form f ps ∷ k)
     → need_at 1 (depth (frames.Signature form f ps ∷ k)) ≤ limit → Leads modules limit (end_params (frames.Signature form f ps ∷ k))
 unfolding depth method_of no_lines
 signature-leads modules limit forms.Long f ps k st r =
@@ -128,22 +128,22 @@ signature-leads modules limit forms.Long f ps k st r =
 signature-leads modules limit forms.Short f ps k st r = short-leads modules limit (frames.Signature forms.Short f ps ∷ k) st refl r
 
 -- Directives.
-directive-leads : (modules : Modules) (limit : ℕ) (f : Path) (ts : List Path) (k : List Frame) → Stack (frames.Types f ts ∷ k) → need_at 1 (depth k) ≤ limit
+pub directive-leads : (modules : Modules) (limit : ℕ) (f : Path) (ts : List Path) (k : List Frame) → Stack (frames.Types f ts ∷ k) → need_at 1 (depth k) ≤ limit
     → Leads modules limit (at modes.DirectiveEnd (frames.Types f ts ∷ k))
 unfolding directive_of
 directive-leads modules limit f ts k st r =
     step-leads modes.DirectiveEnd (frames.Types f ts ∷ k) (kinds.Sign signs.RightParen) (entry-leads modules limit (directive_of f ts) k st.1 st.0 refl (grind arith))
 
-types-leads : (modules : Modules) (limit : ℕ) (f : Path) (ts : List Path) (k : List Frame) → Stack (frames.Types f ts ∷ k) → need_at 1 (depth k) ≤ limit
+pub types-leads : (modules : Modules) (limit : ℕ) (f : Path) (ts : List Path) (k : List Frame) → Stack (frames.Types f ts ∷ k) → need_at 1 (depth k) ≤ limit
     → Leads modules limit (at modes.Types (frames.Types f ts ∷ k))
 types-leads modules limit f ts k st r = step-leads modes.Types (frames.Types f ts ∷ k) (kinds.Sign signs.RightParen) (directive-leads modules limit f ts k st r)
 
-types-open-leads : (modules : Modules) (limit : ℕ) (f : Path) (k : List Frame) → Stack k → takes_items k ≡ true → need_at 1 (depth k) ≤ limit
+pub types-open-leads : (modules : Modules) (limit : ℕ) (f : Path) (k : List Frame) → Stack k → takes_items k ≡ true → need_at 1 (depth k) ≤ limit
     → Leads modules limit (at (modes.TypesOpen f) k)
 types-open-leads modules limit f k st i r = step-leads (modes.TypesOpen f) k (kinds.Sign signs.LeftParen) (types-leads modules limit f [] k (i, st) r)
 
 -- The types of parameters and fields.
-struct-leads : (modules : Modules) (limit : ℕ) (mutable : Bool) (x : Spot) (parent : Option Path) (fs : List Param) (k : List Frame) → Stack k → takes_items k ≡ true
+pub struct-leads : (modules : Modules) (limit : ℕ) (mutable : Bool) (x : Spot) (parent : Option Path) (fs : List Param) (k : List Frame) → Stack k → takes_items k ≡ true
     → need_at 1 (depth k) ≤ limit → Leads modules limit (closed_entry (struct_of mutable x parent fs) k)
 unfolding struct_of
 struct-leads modules limit mutable x parent fs k st i r = entry-leads modules limit (struct_of mutable x parent fs) k st i refl (grind arith)
@@ -231,7 +231,7 @@ path-leads : (modules : Modules) (limit : ℕ) (h : Head) (f : Path) → head_pa
 path-leads modules limit h f e k true t st takes v one r = value-leads modules limit h k st t v (grind arith) (grind arith)
 path-leads modules limit h f e k false t st takes v one r = name-leads modules limit h f e k st takes t r
 
-bare-leads : (modules : Modules) (limit : ℕ) (x : Spot) (k : List Frame) → Stack k → takes_name k ≡ true → need_at 1 (depth k) ≤ limit
+pub bare-leads : (modules : Modules) (limit : ℕ) (x : Spot) (k : List Frame) → Stack k → takes_name k ≡ true → need_at 1 (depth k) ≤ limit
     → Leads modules limit (at (modes.Have (heads.Name x)) k)
 unfolding depth name_of
 bare-leads modules limit x (frames.Signature form f ps ∷ k) st takes r =

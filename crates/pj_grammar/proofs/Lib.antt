@@ -15,6 +15,7 @@ pub mod Expressions
 pub mod Faulting
 pub mod Fielding
 pub mod Dotting
+pub mod Finished
 pub mod Finishing
 pub mod Follow
 pub mod Holding
