@@ -27,7 +27,7 @@ use Rattle.pj_grammar.specs.declared.mode.Head.TheVariants as heads
 use Rattle.pj_grammar.specs.declared.mode.Mode.{Mode}
 use Rattle.pj_grammar.specs.declared.mode.Mode.TheVariants as modes
 use Rattle.pj_grammar.specs.Closing.{closed_entry, closed_line}
-use Rattle.pj_grammar.specs.Frames.{State, admits, at, guarded, params_of, takes_definition, takes_directives, takes_items, takes_lines, takes_uses}
+use Rattle.pj_grammar.specs.Frames.{State, admits, at, guarded, params_of, takes_directives, takes_items, takes_lines, takes_uses}
 use Rattle.pj_grammar.specs.Levels.{is_prefix}
 use Rattle.pj_grammar.specs.Machine.{after_declared, after_return, after_use, argument, base_operator, close_types, directive_end, end_arguments, end_uses, ends_line, eval_name_then, expect_name, expect_sign, field_name, global_assign, header, line, line_word, member_name, opens_types, operand, operand_literal, operand_sign, package_end, package_named, package_start, parameter, path_start, payload, quote, reads_name, run, set_global, short_assign, start, step, step_at, takes_module, type_argument, types, with_module}
 use Rattle.pj_grammar.specs.Makers.{bare_return, break_of, call_of, continue_of, declared, directive_of, field_of, lacks, leaf, literal_of, name_of, no_entries, paths_given, using_of}
@@ -38,11 +38,11 @@ use Rattle.pj_grammar.specs.Texts.{Kind, script, «package»}
 use Rattle.pj_grammar.specs.Theorems.{Monotone, reached, with_base}
 use Rattle.pj_grammar.specs.Tokens.{Place, place, spot}
 use Rattle.pj_grammar.proofs.Levels.{absurd-of}
-use Rattle.pj_grammar.proofs.Climbing.{and-right, directives-items, expression-name, given-few, if-rises}
-use Rattle.pj_grammar.proofs.Lasting.{after-end-rises, after-line-rises, ending-rises, entry-rises, flat, line-rises}
-use Rattle.pj_grammar.proofs.Onward.{AllHigh, all-high, call-close-rises, have-rises, header-rises, params-end-rises, paths-close-rises, start-field-rises, type-of-rises}
-use Rattle.pj_grammar.proofs.Settled.{guard-rises}
-use Rattle.pj_grammar.proofs.Stacks.{Good, GroupOver, Rise, Rises, Stack, is_call, is_empty, is_payload, is_signature, is_types, takes_expression, takes_if, takes_name, takes_path, takes_type, takes_value}
+use Rattle.pj_grammar.proofs.RisingOperands.{and-right, given-few, if-rises}
+use Rattle.pj_grammar.proofs.RisingEnds.{after-end-rises, after-line-rises, ending-rises, entry-rises, flat, line-rises}
+use Rattle.pj_grammar.proofs.RisingExpressions.{AllHigh, all-high, call-close-rises, have-rises, header-rises, params-end-rises, paths-close-rises, start-field-rises, type-of-rises}
+use Rattle.pj_grammar.proofs.RisingOperators.{guard-rises}
+use Rattle.pj_grammar.proofs.Stacks.{Good, GroupOver, Rise, Rises, Stack, call-expression, directives-items, expression-name, is_call, is_empty, is_payload, is_signature, is_types, items-definition, lines-if, lines-value, payload-definition, payload-value, signature-name, signature-type, takes_expression, takes_name, takes_path, types-name}
 
 -- An operand begins.
 types-close-rises : (n : ℕ) (k : List Frame) → Stack k → n ≤ need_at 1 (depth k) → Rise n (close_types k)
@@ -116,10 +116,6 @@ quote-rises n (frames.Call (paths.Bare f) (given.Paths []) ∷ frames.Hole purpo
     (λ a. record { stack = st.1.1; good = and-right (bytes_eq f.text (codes "eval")) (takes_lines k) a; rises = grind arith })
 quote-rises n k st r = tt
 
-call-expression : (k : List Frame) → is_call k ≡ true → takes_expression k ≡ true
-call-expression (frames.Call f g ∷ k) h = refl
-call-expression k h = absurd-of h
-
 argument-begins : (n : ℕ) (k : List Frame) (p : Place) (kind : TokenKind) → Stack k → is_call k ≡ true → n ≤ need_at (argument_nesting k) (depth k)
     → Rise n (argument k p kind)
 argument-begins n k p (kinds.Sign signs.RightParen) st is r = arguments-end-rises n k st r
@@ -128,14 +124,6 @@ argument-begins n k p (kinds.Sign signs.Colon) st is r = quote-rises n k st (let
 argument-begins n k p kind st is r = operand-rises n k p kind st (call-expression k is) (let l : argument_nesting k ≤ 1 = argument-few k in grind arith)
 
 -- Parameters.
-signature-type : (k : List Frame) → is_signature k ≡ true → takes_type k ≡ true
-signature-type (frames.Signature form f ps ∷ k) h = refl
-signature-type k h = absurd-of h
-
-signature-name : (k : List Frame) → is_signature k ≡ true → takes_name k ≡ true
-signature-name (frames.Signature form f ps ∷ k) h = refl
-signature-name k h = absurd-of h
-
 parameter-rises : (n : ℕ) (k : List Frame) (p : Place) (kind : TokenKind) → Stack k → is_signature k ≡ true → n ≤ need_at 1 (depth k)
     → Rise n (parameter k p kind)
 unfolding need depth name_of
@@ -179,20 +167,6 @@ path-start-rises n k p (kinds.Name x) st g r = record { stack = st; good = g; ri
 path-start-rises n k p kind st g r = tt
 
 -- Statements and items begin.
-pub lines-value : (k : List Frame) → takes_lines k ≡ true → takes_value k ≡ true
-lines-value (frames.Block o ss ∷ k) h = refl
-lines-value (frames.Items root is ∷ k) h = refl
-lines-value k h = absurd-of h
-
-pub lines-if : (k : List Frame) → takes_lines k ≡ true → takes_if k ≡ true
-lines-if (frames.Block o ss ∷ k) h = refl
-lines-if (frames.Items root is ∷ k) h = refl
-lines-if k h = absurd-of h
-
-pub items-definition : (k : List Frame) → takes_items k ≡ true → takes_definition k ≡ true
-items-definition (frames.Items root is ∷ k) h = refl
-items-definition k h = absurd-of h
-
 statement-operand-rises : (n : ℕ) (k : List Frame) (p : Place) (kind : TokenKind) → Stack k → takes_lines k ≡ true → n ≤ need_at 0 (depth k)
     → Rise n (operand (frames.Hole purposes.Value ∷ k) p kind)
 unfolding depth
@@ -225,14 +199,6 @@ line-begins n k p kinds.Eof st takes r = ending-rises n k kinds.Eof st r
 line-begins n k p kind st takes r = statement-operand-rises n k p kind st takes r
 
 -- What is evaluated.
-pub payload-value : (k : List Frame) → is_payload k ≡ true → takes_value k ≡ true
-payload-value (frames.Payload m quoted ∷ k) h = refl
-payload-value k h = absurd-of h
-
-payload-definition : (k : List Frame) → is_payload k ≡ true → takes_definition k ≡ true
-payload-definition (frames.Payload m quoted ∷ k) h = refl
-payload-definition k h = absurd-of h
-
 payload-operand-rises : (n : ℕ) (k : List Frame) (p : Place) (kind : TokenKind) → Stack k → is_payload k ≡ true → n ≤ need_at 2 (depth k)
     → Rise n (operand (frames.Hole purposes.Value ∷ k) p kind)
 unfolding depth
@@ -293,10 +259,6 @@ global-rises n at' x k p (kinds.Sign s) st takes r = set-global-rises n at' x k 
 global-rises n at' x k p kind st takes r = tt
 
 -- Uses.
-pub uses-items : (k : List Frame) → takes_uses k ≡ true → takes_items k ≡ true
-uses-items (frames.Items root is ∷ k) h = refl
-uses-items k h = absurd-of h
-
 uses-end-rises : (n : ℕ) (names : List Spot) (k : List Frame) (kind : TokenKind) → Stack k → n ≤ need_at 1 (depth k) → Rise n (end_uses names k kind)
 unfolding need depth
 uses-end-rises n names (frames.Items roots.Script is ∷ k) kind st r = after-end-rises n (closed_entry (using_of names) (frames.Items roots.Script is ∷ k)) kind (entry-rises n 1 (using_of names) (frames.Items roots.Script is ∷ k) st (grind arith) r)
@@ -326,10 +288,6 @@ declared-rises n x k (kinds.Reserved words.End) st i r = entry-rises n 1 (declar
 declared-rises n x k kind st i r = tt
 
 -- Directives.
-types-name : (k : List Frame) → is_types k ≡ true → takes_name k ≡ true
-types-name (frames.Types f ts ∷ k) h = refl
-types-name k h = absurd-of h
-
 types-rise : (n : ℕ) (k : List Frame) (p : Place) (kind : TokenKind) → Stack k → is_types k ≡ true → n ≤ need_at 1 (depth k) → Rise n (types k p kind)
 unfolding need name_of
 types-rise n k p (kinds.Sign signs.RightParen) st is r = record { stack = st; good = is; rises = r }

@@ -1,6 +1,6 @@
 -- What holds of the frames and the mode wherever the machine stands, whatever it has read: each frame stands over one that takes
 -- it, and the mode over one that it can end in. `Rise n s` says that, where there is a state, it stands so and needs no less than n.
-use Rattle.std.proofs.Common.{◌≡◌, ◌≤◌, ℕ, Bool, true, false, List, [], ◌∷◌, Option, Some, None}
+use Rattle.std.proofs.Common.{◌≡◌, ◌≤◌, ℕ, Bool, true, false, List, [], ◌∷◌, Option, Some, None, refl}
 use Rattle.pj_grammar.specs.declared.level.Operator.{Operator}
 use Rattle.pj_grammar.specs.declared.frame.Form.TheVariants as forms
 use Rattle.pj_grammar.specs.declared.frame.Frame.{Frame}
@@ -19,6 +19,7 @@ use Rattle.pj_grammar.specs.Frames.{State, takes_definition, takes_directives, t
 use Rattle.pj_grammar.specs.Machine.{opens_types}
 use Rattle.pj_grammar.specs.Makers.{infix_height, lacks, paths_given}
 use Rattle.pj_grammar.specs.Need.{need}
+use Rattle.pj_grammar.proofs.Levels.{absurd-of}
 
 -- What stands on top: a frame that takes an expression; one that takes a name that may have a module; one that takes a name.
 abbrev pub takes_expression : List Frame → Bool
@@ -202,3 +203,56 @@ pub record Rises (n : ℕ) (s : State) : Type 0 where
 abbrev pub Rise : ℕ → Option State → Type 0
 Rise n None = Unit {0}
 Rise n (Some s) = Rises n s
+
+-- What takes the one takes the other.
+pub call-expression : (k : List Frame) → is_call k ≡ true → takes_expression k ≡ true
+call-expression (frames.Call f g ∷ k) h = refl
+call-expression k h = absurd-of h
+
+pub signature-type : (k : List Frame) → is_signature k ≡ true → takes_type k ≡ true
+signature-type (frames.Signature form f ps ∷ k) h = refl
+signature-type k h = absurd-of h
+
+pub signature-name : (k : List Frame) → is_signature k ≡ true → takes_name k ≡ true
+signature-name (frames.Signature form f ps ∷ k) h = refl
+signature-name k h = absurd-of h
+
+pub lines-value : (k : List Frame) → takes_lines k ≡ true → takes_value k ≡ true
+lines-value (frames.Block o ss ∷ k) h = refl
+lines-value (frames.Items root is ∷ k) h = refl
+lines-value k h = absurd-of h
+
+pub lines-if : (k : List Frame) → takes_lines k ≡ true → takes_if k ≡ true
+lines-if (frames.Block o ss ∷ k) h = refl
+lines-if (frames.Items root is ∷ k) h = refl
+lines-if k h = absurd-of h
+
+pub items-definition : (k : List Frame) → takes_items k ≡ true → takes_definition k ≡ true
+items-definition (frames.Items root is ∷ k) h = refl
+items-definition k h = absurd-of h
+
+pub payload-value : (k : List Frame) → is_payload k ≡ true → takes_value k ≡ true
+payload-value (frames.Payload m quoted ∷ k) h = refl
+payload-value k h = absurd-of h
+
+pub payload-definition : (k : List Frame) → is_payload k ≡ true → takes_definition k ≡ true
+payload-definition (frames.Payload m quoted ∷ k) h = refl
+payload-definition k h = absurd-of h
+
+pub types-name : (k : List Frame) → is_types k ≡ true → takes_name k ≡ true
+types-name (frames.Types f ts ∷ k) h = refl
+types-name k h = absurd-of h
+
+pub directives-items : (k : List Frame) → takes_directives k ≡ true → takes_items k ≡ true
+directives-items (frames.Items root is ∷ k) h = refl
+directives-items k h = absurd-of h
+
+pub expression-name : (k : List Frame) → takes_expression k ≡ true → takes_name k ≡ true
+expression-name (frames.Prefix o ∷ k) h = refl
+expression-name (frames.Infix l a o ∷ k) h = refl
+expression-name (frames.Then c ∷ k) h = refl
+expression-name (frames.Else c a ∷ k) h = refl
+expression-name (frames.Group p types ∷ k) h = refl
+expression-name (frames.Call f g ∷ k) h = refl
+expression-name (frames.Hole purpose ∷ k) h = refl
+expression-name k h = absurd-of h

@@ -1,9 +1,10 @@
 //! Laws on the grammar and its machine. There is no product code here.
-ghost use Rattle.pj_grammar.specs.Theorems.{Complete, CompleteExpressions, CompleteStatements, Monotone, NeedIsNesting, NoneBegins, OneTree};
+ghost use Rattle.pj_grammar.specs.Theorems.{Complete, CompleteExpressions, CompleteStatements, LeadsOn, Monotone, NeedIsNesting, NoneBegins, NoneWithin, OneTree};
 
 /// The machine reads each expression of the grammar, wherever one may stand, each statement, where statements stand, and each
 /// text. So a text has one tree, and where the machine has no answer no text begins so. Where it has read a text, it needs what
-/// the text nests, and it needs no less behind more tokens.
+/// the text nests, and it needs no less behind more tokens: so where it needs more than a limit, no text within the limit begins
+/// so. From wherever it stands, tokens lead on to a text that it accepts, and that nests no deeper than it needs.
 pub fn grammar_laws()
     ensures complete_expressions { CompleteExpressions }
     ensures complete_statements { CompleteStatements }
@@ -12,4 +13,6 @@ pub fn grammar_laws()
     ensures none_begins { NoneBegins }
     ensures need_is_nesting { NeedIsNesting }
     ensures monotone { Monotone }
+    ensures none_within { NoneWithin }
+    ensures leads_on { LeadsOn }
 {}

@@ -1,14 +1,10 @@
 -- From every state that stands well, tokens lead on to a text that is read, and that nests no deeper than the state needs.
-use Rattle.std.proofs.Common.{◌≡◌, ◌≤◌, ◌+◌, arith, max, ℕ, pos, Bool, true, false, List, [], ◌∷◌, ◌++◌, if◌then◌else◌, Option, Some, None, refl, sym, ap, subst, ◌∙◌, codes}
-use Rattle.pj_words.specs.declared.word.Word.TheVariants as words
+use Rattle.std.proofs.Common.{◌≡◌, ◌≤◌, ◌+◌, arith, max, ℕ, true, false, List, [], ◌∷◌, ◌++◌, Option, refl, sym, subst, ◌∙◌}
 use Rattle.pj_lex.specs.declared.sign.Sign.TheVariants as signs
-use Rattle.pj_lex.specs.declared.token.Token.{Token}
 use Rattle.pj_lex.specs.declared.token.TokenKind.{TokenKind}
 use Rattle.pj_lex.specs.declared.token.TokenKind.TheVariants as kinds
-use Rattle.pj_syntax.specs.declared.expression.Spot.{Spot}
 use Rattle.pj_syntax.specs.declared.expression.Path.{Path}
 use Rattle.pj_syntax.specs.declared.expression.Path.TheVariants as paths
-use Rattle.pj_syntax.specs.declared.statement.Param.{Param}
 use Rattle.pj_grammar.specs.declared.level.Level.{Level}
 use Rattle.pj_grammar.specs.declared.level.Level.TheVariants as levels
 use Rattle.pj_grammar.specs.declared.level.Operator.{Operator}
@@ -21,17 +17,16 @@ use Rattle.pj_grammar.specs.declared.frame.Given.TheVariants as given
 use Rattle.pj_grammar.specs.declared.frame.Purpose.TheVariants as purposes
 use Rattle.pj_grammar.specs.declared.mode.Head.{Head}
 use Rattle.pj_grammar.specs.declared.mode.Head.TheVariants as heads
-use Rattle.pj_grammar.specs.declared.mode.Mode.{Mode}
 use Rattle.pj_grammar.specs.declared.mode.Mode.TheVariants as modes
 use Rattle.pj_grammar.specs.Frames.{State, at, give, is_value, node, settle}
-use Rattle.pj_grammar.specs.Levels.{fits}
-use Rattle.pj_grammar.specs.Makers.{argument_after, argument_before, call_of, conditional_of, field_of, group_of, infix_of, lacks, leaf, name_of, no_arguments, paths_given, prefix_of}
+use Rattle.pj_grammar.specs.Makers.{argument_after, argument_before, call_of, conditional_of, group_of, infix_of, lacks, leaf, name_of, paths_given, prefix_of}
 use Rattle.pj_grammar.specs.Modules.{Modules}
-use Rattle.pj_grammar.specs.Need.{depth, given_nesting, head_nesting, need_at}
+use Rattle.pj_grammar.specs.Need.{depth, given_nesting, need_at}
 use Rattle.pj_grammar.specs.Operands.{close_call, close_paths, finish, have, have_other, have_value, is_type_word}
-use Rattle.pj_grammar.proofs.Climbing.{given-last, paths-nest}
+use Rattle.pj_grammar.specs.Theorems.{Leads}
+use Rattle.pj_grammar.proofs.RisingOperands.{given-last, paths-nest}
 use Rattle.pj_grammar.proofs.Holes.{Stops, a_close, a_colon, a_separator, an_else, an_else_if, an_end, an_eof}
-use Rattle.pj_grammar.proofs.Leading.{Ends, Leads, here, purpose-ends, step-leads, zero_kind, zero_node}
+use Rattle.pj_grammar.proofs.LeadingEnds.{Ends, here, purpose-ends, step-leads, zero_kind, zero_node}
 use Rattle.pj_grammar.proofs.Levels.{absurd-of, fits-conditional}
 use Rattle.pj_grammar.proofs.Stacks.{Stack, takes_expression}
 
@@ -136,14 +131,14 @@ expression-ends modules limit (frames.Then c ∷ k) st takes h v some r = record
   last = kinds.Sign signs.Colon;
   stops = a_colon;
   leads = step-leads modes.Want (frames.Else c (node h) ∷ k) zero_kind
-    (have-leads (heads.Plain zero_node) (frames.Else c (node h) ∷ k) refl refl
-    (expression-ends modules limit k st.1 st.0 (heads.Plain (conditional_of c (node h) zero_node)) refl (grind arith) (grind arith)));
+      (have-leads (heads.Plain zero_node) (frames.Else c (node h) ∷ k) refl refl
+      (expression-ends modules limit k st.1 st.0 (heads.Plain (conditional_of c (node h) zero_node)) refl (grind arith) (grind arith)));
 }
 expression-ends modules limit (frames.Group p types ∷ k) st takes h v some r = record {
   last = kinds.Sign signs.RightParen;
   stops = a_close;
   leads = have-leads (heads.Plain (group_of p (node h))) k st.0.0 refl
-    (expression-ends modules limit k st.1 st.0.0 (heads.Plain (group_of p (node h))) refl (grind arith) (grind arith));
+      (expression-ends modules limit k st.1 st.0.0 (heads.Plain (group_of p (node h))) refl (grind arith) (grind arith));
 }
 expression-ends modules limit (frames.Call f g ∷ k) st takes h v some r = record {
   last = kinds.Sign signs.RightParen;

@@ -34,10 +34,10 @@ use Rattle.pj_grammar.specs.Operands.{Next, add_name, add_param, after_argument,
 use Rattle.pj_grammar.specs.Statements.{assigning, operator_at}
 use Rattle.pj_grammar.specs.Tokens.{Place}
 use Rattle.pj_grammar.proofs.Levels.{Binary, absurd-of, and, comparison, or, product, sum}
-use Rattle.pj_grammar.proofs.Climbing.{and-right, ask-rises, call-head-high, call-head-low, define-rises, directives-items, dot-rises, extend-rises, give-low, if-rises, paren-rises, some-node, value-rises-here}
-use Rattle.pj_grammar.proofs.Lasting.{after-end-rises, entry-rises, flat, line-rises, method-rises, set-rises, value-rises}
-use Rattle.pj_grammar.proofs.Settled.{Ended, ended, guard-rises}
-use Rattle.pj_grammar.proofs.Stacks.{GroupOver, HeadOver, Over, Rise, Stack, is_fields, is_signature, takes_expression, takes_set}
+use Rattle.pj_grammar.proofs.RisingOperands.{and-right, ask-rises, call-head-high, call-head-low, define-rises, dot-rises, extend-rises, give-low, if-rises, paren-rises, some-node, value-rises-here}
+use Rattle.pj_grammar.proofs.RisingEnds.{after-end-rises, entry-rises, flat, line-rises, method-rises, set-rises, value-rises}
+use Rattle.pj_grammar.proofs.RisingOperators.{Ended, ended, guard-rises}
+use Rattle.pj_grammar.proofs.Stacks.{GroupOver, HeadOver, Over, Rise, Stack, directives-items, is_fields, is_signature, takes_expression, takes_set}
 
 -- Types of parameters and fields.
 pub type-of-rises : (n : ℕ) (x : Option Spot) (p : ℕ) (f : Path) (ps : Option (List Param)) (k : List Frame) → Stack k → n ≤ need_at 4 (depth k)

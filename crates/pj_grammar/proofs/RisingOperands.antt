@@ -24,9 +24,9 @@ use Rattle.pj_grammar.specs.Modules.{Modules, is_module}
 use Rattle.pj_grammar.specs.Need.{depth, given_nesting, head_nesting, need, need_at, place_nesting}
 use Rattle.pj_grammar.specs.Operands.{ask, define, extend, have_dot, have_paren, open_apart, open_call, open_direct}
 use Rattle.pj_grammar.proofs.Levels.{Binary, absurd-of, and, comparison, or, product, sum}
-use Rattle.pj_grammar.proofs.Settled.{Ended, guard-rises}
-use Rattle.pj_grammar.proofs.Lasting.{flat}
-use Rattle.pj_grammar.proofs.Stacks.{HeadOver, Rise, Stack, takes_expression, takes_name, takes_path}
+use Rattle.pj_grammar.proofs.RisingOperators.{Ended, guard-rises}
+use Rattle.pj_grammar.proofs.RisingEnds.{flat}
+use Rattle.pj_grammar.proofs.Stacks.{HeadOver, Rise, Stack, directives-items, takes_expression, takes_path}
 
 pub if-rises : (n : ℕ) (b : Bool) (x y : Option State) → (b ≡ true → Rise n x) → (b ≡ false → Rise n y) → Rise n (if b then x else y)
 if-rises n true x y f g = f refl
@@ -87,16 +87,6 @@ low-binary _ and = record { callee = refl; named = refl; bare = refl }
 low-binary _ comparison = record { callee = refl; named = refl; bare = refl }
 low-binary _ sum = record { callee = refl; named = refl; bare = refl }
 low-binary _ product = record { callee = refl; named = refl; bare = refl }
-
-pub expression-name : (k : List Frame) → takes_expression k ≡ true → takes_name k ≡ true
-expression-name (frames.Prefix o ∷ k) h = refl
-expression-name (frames.Infix l a o ∷ k) h = refl
-expression-name (frames.Then c ∷ k) h = refl
-expression-name (frames.Else c a ∷ k) h = refl
-expression-name (frames.Group p types ∷ k) h = refl
-expression-name (frames.Call f g ∷ k) h = refl
-expression-name (frames.Hole purpose ∷ k) h = refl
-expression-name k h = absurd-of h
 
 -- How deep operands nest.
 pub place-low : (e : Node) (k : List Frame) → e.nesting ≤ place_nesting e k
@@ -227,10 +217,6 @@ direct-rises n (heads.Name x) k st r = open-rises n (paths.Bare x) k st r
 direct-rises n (heads.Member m x) k st r = open-rises n (paths.Of m x) k st r
 direct-rises n (heads.Operator m x) k st r = open-rises n (paths.Of m x) k st r
 direct-rises n h k st r = tt
-
-pub directives-items : (k : List Frame) → takes_directives k ≡ true → takes_items k ≡ true
-directives-items (frames.Items root is ∷ k) h = refl
-directives-items k h = absurd-of h
 
 apart-rises : (n : ℕ) (h : Head) (k : List Frame) → Stack k → n ≤ need_at (head_nesting h k) (depth k) → Rise n (open_apart h k)
 unfolding need depth name_of

@@ -1,8 +1,7 @@
 -- From every mode over frames that stands well, tokens lead on to a text that is read, and that nests no deeper than the state needs.
-use Rattle.std.proofs.Common.{◌≡◌, ◌≤◌, ◌+◌, arith, max, ℕ, pos, Bool, true, false, List, [], ◌∷◌, ◌++◌, if◌then◌else◌, Option, Some, None, refl, sym, ap, subst, ◌∙◌, codes}
+use Rattle.std.proofs.Common.{◌≡◌, ◌≤◌, ◌+◌, arith, ℕ, Bool, true, false, List, [], ◌∷◌, ◌++◌, Option, Some, None, refl, sym, subst, ◌∙◌, codes}
 use Rattle.pj_words.specs.declared.word.Word.TheVariants as words
 use Rattle.pj_lex.specs.declared.sign.Sign.TheVariants as signs
-use Rattle.pj_lex.specs.declared.token.Token.{Token}
 use Rattle.pj_lex.specs.declared.token.TokenKind.{TokenKind}
 use Rattle.pj_lex.specs.declared.token.TokenKind.TheVariants as kinds
 use Rattle.pj_syntax.specs.declared.expression.Spot.{Spot}
@@ -10,13 +9,10 @@ use Rattle.pj_syntax.specs.declared.expression.Path.{Path}
 use Rattle.pj_syntax.specs.declared.expression.Path.TheVariants as paths
 use Rattle.pj_syntax.specs.declared.statement.Param.{Param}
 use Rattle.pj_grammar.specs.declared.node.Node.{Node}
-use Rattle.pj_grammar.specs.declared.node.Line.{Line}
 use Rattle.pj_grammar.specs.declared.frame.Form.{Form}
 use Rattle.pj_grammar.specs.declared.frame.Form.TheVariants as forms
 use Rattle.pj_grammar.specs.declared.frame.Frame.{Frame}
 use Rattle.pj_grammar.specs.declared.frame.Frame.TheVariants as frames
-use Rattle.pj_grammar.specs.declared.frame.Given.TheVariants as given
-use Rattle.pj_grammar.specs.declared.frame.Header.{Header}
 use Rattle.pj_grammar.specs.declared.frame.Header.TheVariants as headers
 use Rattle.pj_grammar.specs.declared.frame.Opener.TheVariants as openers
 use Rattle.pj_grammar.specs.declared.frame.Purpose.TheVariants as purposes
@@ -24,24 +20,23 @@ use Rattle.pj_grammar.specs.declared.frame.Root.TheVariants as roots
 use Rattle.pj_grammar.specs.declared.frame.Target.TheVariants as targets
 use Rattle.pj_grammar.specs.declared.mode.Head.{Head}
 use Rattle.pj_grammar.specs.declared.mode.Head.TheVariants as heads
-use Rattle.pj_grammar.specs.declared.mode.Mode.{Mode}
 use Rattle.pj_grammar.specs.declared.mode.Mode.TheVariants as modes
 use Rattle.pj_grammar.specs.declared.mode.Parsed.TheVariants as parsed
 use Rattle.pj_grammar.specs.Closing.{closed_entry, closed_line, closed_method, ending}
-use Rattle.pj_grammar.specs.Frames.{State, at, guarded, head_path, is_value, node, takes_definition, takes_directives, takes_items, takes_lines, takes_short, takes_uses}
+use Rattle.pj_grammar.specs.Frames.{at, guarded, head_path, is_value, node, takes_items, takes_lines, takes_short}
 use Rattle.pj_grammar.specs.Machine.{run}
-use Rattle.pj_grammar.specs.Makers.{Entry, abstract_of, argument_before, call_of, declared, directive_of, entry_after, field_of, for_of, if_of, lacks, leaf, method_of, name_of, no_entries, no_lines, paths_given, struct_of, using_of, while_of}
+use Rattle.pj_grammar.specs.Makers.{Entry, abstract_of, argument_before, directive_of, field_of, for_of, if_of, lacks, leaf, method_of, name_of, no_lines, paths_given, struct_of, while_of}
 use Rattle.pj_grammar.specs.Modules.{Modules}
-use Rattle.pj_grammar.specs.Need.{depth, head_nesting, mode_nesting, need_at, place_nesting}
+use Rattle.pj_grammar.specs.Need.{depth, head_nesting, need_at, place_nesting}
 use Rattle.pj_grammar.specs.Operands.{end_params}
 use Rattle.pj_grammar.specs.Tokens.{spot}
-use Rattle.pj_grammar.proofs.Completing.{called-leads, expression-ends, have-leads, mixed-leads}
-use Rattle.pj_grammar.proofs.Climbing.{some-node}
-use Rattle.pj_grammar.proofs.Leading.{Ends, Leads, closed, entry-ends, here, line-ends, method-ends, quoted-leads, step-leads, zero_kind, zero_node}
+use Rattle.pj_grammar.specs.Theorems.{Leads}
+use Rattle.pj_grammar.proofs.LeadingExpressions.{expression-ends, have-leads}
+use Rattle.pj_grammar.proofs.RisingOperands.{some-node}
+use Rattle.pj_grammar.proofs.LeadingEnds.{closed, entry-ends, here, line-ends, method-ends, step-leads, zero_kind, zero_node}
 use Rattle.pj_grammar.proofs.Levels.{absurd-of}
-use Rattle.pj_grammar.proofs.Onward.{place-exact}
-use Rattle.pj_grammar.proofs.Rising.{lines-if, payload-value, uses-items}
-use Rattle.pj_grammar.proofs.Stacks.{Good, HeadOver, Stack, is_call, is_empty, is_fields, is_payload, is_short, is_signature, is_types, takes_expression, takes_name, takes_path}
+use Rattle.pj_grammar.proofs.RisingExpressions.{place-exact}
+use Rattle.pj_grammar.proofs.Stacks.{HeadOver, Stack, is_short, lines-if, takes_expression, takes_name, takes_path}
 
 -- a name; where a module is used, one that every text has
 abbrev pub some_name : TokenKind
