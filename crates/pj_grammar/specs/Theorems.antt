@@ -102,6 +102,25 @@ abbrev pub Monotone : Type 0
 Monotone = (modules : Modules) (kind : Kind) (tokens more : List Token) (s t : State) → reached (with_base modules) kind tokens ≡ Some s
     → run (with_base modules) more (Some s) ≡ Some t → need s ≤ need t
 
+-- tokens that lead on from a state to a text that the machine accepts, and that nests at most so deep
+pub record Leads (modules : Modules) (limit : ℕ) (s : Option State) : Type 0 where
+  pub more : List Token
+  pub tree : Parsed
+  pub nesting : ℕ
+  pub is : accepted (run modules more s) ≡ Some (tree, nesting)
+  pub within : nesting ≤ limit
+
+-- The machine is never stuck: from each state that is reached tokens lead on to a text that it accepts, and that nests no deeper than
+-- the state needs. With `Sound` this is `Completion`.
+abbrev pub LeadsOn : Type 0
+LeadsOn = (modules : Modules) (kind : Kind) (tokens : List Token) (s : State) → reached modules kind tokens ≡ Some s
+    → Leads modules (need s) (Some s)
+
+-- Where a state needs more than a limit, no text within the limit begins so. With `Completion` this gives `DeepFaults`.
+abbrev pub NoneWithin : Type 0
+NoneWithin = (modules : Modules) (kind : Kind) (limit : ℕ) (tokens : List Token) (s : State) → reached (with_base modules) kind tokens ≡ Some s
+    → 8 ≤ limit → suc limit ≤ need s → Viable (with_base modules) kind limit tokens → ⊥
+
 abbrev pub NeedIsNesting : Type 0
 NeedIsNesting = (s : State) (tree : Parsed) (nesting : ℕ) → accepted (Some s) ≡ Some (tree, nesting) → need s ≡ max 8 nesting
 
