@@ -3,6 +3,7 @@ pub mod SeenLoop
 pub mod Kept
 pub mod NewLemmas
 pub mod Spreading
+pub mod Slots
 pub mod TakenLaws
 pub mod FitLoop
 pub mod Walking
