@@ -79,10 +79,9 @@ unfolding IsDistinct
 all_differ [] each = tt
 all_differ (h ∷ hashes) each =
     let k = h % 1024 in
-    let own = first (λ x. x % 1024 == k) h hashes (eq-eqb k k refl) (each k (omega arith)) in
-    (
+    let own = first (λ x. x % 1024 == k) h hashes (eq-eqb k k refl) (each k (omega arith)) in (
       all_back (λ y. (h == y) ≡ false) (λ x. x % 1024 == k) (λ y e. elsewhere h y (h == y) refl e) hashes own,
-      all_differ hashes (λ i lt. behind (λ x. x % 1024 == i) h hashes (h % 1024 == i) refl (each i lt))
+      all_differ hashes (λ i lt. behind (λ x. x % 1024 == i) h hashes (h % 1024 == i) refl (each i lt)),
     )
 
 -- ---- the loop over parts

@@ -5,8 +5,7 @@
 
 use anyhow::anyhow;
 use pj_image::{DecodeFault, decode};
-use std::env;
-use std::fs;
+use std::{env, fs};
 
 fn main(rt: HostRuntime) -> anyhow::Result<()> {
     let words: Vec<String> = env::args(&rt)?.skip(1).collect(rt.alloc())?;

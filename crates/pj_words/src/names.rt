@@ -67,9 +67,7 @@ fn goes_on(text: &str) -> bool
 fn are_plain(bytes: &[u8]) -> bool
     ensures is { result ≡ list_all is_plain bytes.now }
 {
-    bytes
-        .iter()
-        .all(|b| *b < 128 && (b.is_ascii_alphanumeric() || *b == b'_' || *b == b'!'))
+    bytes.iter().all(|b| *b < 128 && (b.is_ascii_alphanumeric() || *b == b'_' || *b == b'!'))
 }
 
 fn all_go_on(text: &str) -> bool

@@ -1,4 +1,4 @@
-use Rattle.std.proofs.Common.{◌≡◌, ◌≢◌, ◌<◌, ℕ, get_or, length}
+use Rattle.std.proofs.Common.{◌≡◌, ◌≢◌, ◌<◌, ℕ, get_or}
 use Rattle.pj_image.specs.Hashes.{slot_of}
 use Rattle.pj_image.proofs.hashes.put.Given as goal
 

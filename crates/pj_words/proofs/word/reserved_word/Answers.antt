@@ -8,7 +8,7 @@ use Rattle.pj_words.proofs.word.reserved_word.Goals as goal
 
 pub returns-in-len1-up : goal.returns-in-len1-up
 returns-in-len1-up c =
-    c.copied.ensures ∙ find_from_yields_List (λ w. bytes_eq (word_text w) c.args.text.now) _ _ c.find.result c.find.ensures.ran (YieldsList-from_slice c.words_from.result.now cc) (λ x b q k. search (rules, tests)) 
+    c.copied.ensures ∙ find_from_yields_List (λ w. bytes_eq (word_text w) c.args.text.now) _ _ c.find.result c.find.ensures.ran (YieldsList-from_slice c.words_from.result.now cc) (λ x b q k. search (rules, tests))
     ∙ subst (λ (t : List ℕ). find (λ w. bytes_eq (word_text w) t) c.words_from.result.now ≡ reserved_word t)
-        (sym (drop-cons c.args.text.now 0 _ (omega (arith, c.in-len1-up.len_at_least))))
-        ((rw c.as_bytes.ensures.value at c.words_from.ensures) (drop 1 c.args.text.now))
+    (sym (drop-cons c.args.text.now 0 _ (omega (arith, c.in-len1-up.len_at_least))))
+    ((rw c.as_bytes.ensures.value at c.words_from.ensures) (drop 1 c.args.text.now))
