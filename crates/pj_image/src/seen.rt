@@ -11,7 +11,7 @@ use std::alloc::Global;
 use std::marker::Model;
 
 /// From how many texts on their hashes are compared first.
-const MANY: usize = 256;
+const MANY: usize = 65_536;
 
 /// Texts of an image in the order in which they were seen. Contracts see the list.
 #[derive(Drop)]
