@@ -8,15 +8,14 @@ crates/pj_image_speed.
 """
 import hashlib
 import itertools
+import multiprocessing
 import os
 import string
-import subprocess
 import sys
 import tempfile
-import time
 
-TOP = os.path.dirname(os.path.dirname(os.path.abspath(__file__)))
-PROGRAM = os.path.join(TOP, "crates", "pj_image_speed", "out", "pj_image_speed")
+from timing import program, timed
+
 LONGEST = 67_108_864
 MOST_TIME = 3
 MOST_MEMORY = 8
@@ -47,26 +46,24 @@ def longest(entries):
     return image([b"z" + bytes(e) for e in itertools.islice(endings, room // 13)], entries)
 
 
-def timed(command, printed):
-    """Seconds, the most bytes of memory, and the status of a command, whose output goes to a file."""
-    start = time.monotonic()
-    child = subprocess.Popen(command, stdout=printed)
-    _, ended, usage = os.wait4(child.pid, 0)
-    return time.monotonic() - start, usage.ru_maxrss * 1024, os.waitstatus_to_exitcode(ended)
+def write(file, entries):
+    with open(file, "wb") as out:
+        out.write(longest(entries))
 
 
 def main():
-    if not os.access(PROGRAM, os.X_OK):
-        sys.exit("the program isn't built: run rt ci first")
+    decoder = program("pj_image_speed")
     missed = False
     with tempfile.TemporaryDirectory() as folder:
         file = os.path.join(folder, "P.pimg")
         for what, entries in (("decoded", number(0)), ("refused", number(1))):
-            with open(file, "wb") as out:
-                out.write(longest(entries))
+            # In a process of its own, since what this one takes would be counted as taken by the commands that it starts.
+            writer = multiprocessing.Process(target=write, args=(file, entries))
+            writer.start()
+            writer.join()
             size = os.path.getsize(file)
             with open(os.path.join(folder, "printed"), "w+b") as printed:
-                took, memory, status = min(timed([PROGRAM, file, "P"], printed) for _ in range(TURNS))
+                took, memory, status = min(timed([decoder, file, "P"], printed) for _ in range(TURNS))
                 printed.seek(0)
                 answer = printed.readline().decode().strip()
                 summed = min(timed(["sha256sum", file], printed)[0] for _ in range(TURNS))
@@ -78,4 +75,5 @@ def main():
         sys.exit("a limit is missed")
 
 
-main()
+if __name__ == "__main__":
+    main()

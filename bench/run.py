@@ -5,13 +5,11 @@ Prints the milliseconds and the megabytes that it took at its most. It takes no 
 repository. The program is built by ./vojstrep or by `rt ci`.
 """
 import os
-import subprocess
 import sys
 import tempfile
-import time
 
-TOP = os.path.dirname(os.path.dirname(os.path.abspath(__file__)))
-PROGRAM = os.path.join(TOP, "crates", "pj_cli", "out", "pj_cli")
+from timing import program, timed
+
 LENGTH = 1_048_576
 LINES = 20_000
 STEPS = 10_000_000
@@ -36,23 +34,18 @@ def script():
 
 
 def main():
-    if not os.access(PROGRAM, os.X_OK):
-        sys.exit("the program isn't built: run ./vojstrep or rt ci first")
+    runner = program("pj_cli")
     text, expected = script()
     with tempfile.TemporaryDirectory() as folder:
         with open(os.path.join(folder, "long.jl"), "w", encoding="ascii") as file:
             file.write(text)
         with open(os.path.join(folder, "printed"), "w+b") as printed:
-            start = time.monotonic()
-            child = subprocess.Popen([PROGRAM, "run", str(STEPS), "long.jl"], cwd=folder, stdout=printed)
-            _, ended, usage = os.wait4(child.pid, 0)
-            took = time.monotonic() - start
-            child.returncode = os.waitstatus_to_exitcode(ended)
+            took, memory, status = timed([runner, "run", str(STEPS), "long.jl"], printed, folder)
             printed.seek(0)
             right = printed.read() == expected.encode("ascii")
-    print(f"{len(text)} bytes: {took * 1000:.0f} ms, {usage.ru_maxrss / 1024:.0f} MB")
-    if child.returncode != 0 or not right:
-        sys.exit(f"the program ended with {child.returncode}, and what it printed is {'right' if right else 'wrong'}")
+    print(f"{len(text)} bytes: {took * 1000:.0f} ms, {memory / 2**20:.0f} MB")
+    if status != 0 or not right:
+        sys.exit(f"the program ended with {status}, and what it printed is {'right' if right else 'wrong'}")
 
 
 main()

@@ -9,34 +9,23 @@ import os
 import subprocess
 import sys
 import tempfile
-import time
 
-TOP = os.path.dirname(os.path.dirname(os.path.abspath(__file__)))
-PROGRAM = os.path.join(TOP, "crates", "pj_tree_speed", "out", "pj_tree_speed")
+from timing import program, timed
+
 NODES = 1_000_000
 MOST_SECONDS = 1.0
 MOST_MEMORY = 40
 TURNS = 3
 
 
-def timed(command, printed):
-    """Seconds, the most bytes of memory, and the status of a command, whose output goes to a file."""
-    start = time.monotonic()
-    child = subprocess.Popen(command, stdout=printed)
-    _, ended, usage = os.wait4(child.pid, 0)
-    child.returncode = os.waitstatus_to_exitcode(ended)
-    return time.monotonic() - start, usage.ru_maxrss * 1024, child.returncode
-
-
 def main():
-    if not os.access(PROGRAM, os.X_OK):
-        sys.exit("the program isn't built: run rt ci first")
+    reader = program("pj_tree_speed")
     with tempfile.TemporaryDirectory() as folder:
         tree = os.path.join(folder, "tree")
-        subprocess.run([PROGRAM, str(NODES), tree], stdout=subprocess.DEVNULL, check=True)
+        subprocess.run([reader, str(NODES), tree], stdout=subprocess.DEVNULL, check=True)
         size = os.path.getsize(tree)
         with open(os.path.join(folder, "printed"), "w+b") as printed:
-            took, memory, status = min(timed([PROGRAM, str(NODES)], printed) for _ in range(TURNS))
+            took, memory, status = min(timed([reader, str(NODES)], printed) for _ in range(TURNS))
             printed.seek(0)
             same = all(line.endswith(b"the same: true") for line in printed.read().splitlines())
             summed = min(timed(["sha256sum", tree], printed)[0] for _ in range(TURNS))

@@ -1,5 +1,10 @@
 pub mod Joined
 pub mod SeenLoop
+pub mod Kept
+pub mod NewLemmas
+pub mod Spreading
+pub mod Slots
+pub mod TakenLaws
 pub mod FitLoop
 pub mod Walking
 pub mod FrameLaws

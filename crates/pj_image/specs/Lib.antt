@@ -3,8 +3,10 @@ pub mod Fitting
 pub mod Formed
 pub mod Found
 pub mod Frames
+pub mod Hashes
 pub mod Mentions
 pub mod Names
+pub mod New
 pub mod Pieces
 pub mod PlainTrees
 pub mod Sees

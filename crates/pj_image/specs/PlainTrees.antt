@@ -1,7 +1,7 @@
 -- The trees that are built today: bodies of methods on whole numbers.
-use Rattle.std.specs.Prelude.{ℕ, zero, suc, Bool, true, false, List, [], ◌∷◌, length, ◌==◌, ◌&&◌, ◌||◌, nat_le, codes, map, Option, Some, None, is_some}
+use Rattle.std.specs.Prelude.{ℕ, zero, suc, Bool, true, false, List, [], ◌∷◌, length, ◌==◌, ◌&&◌, ◌||◌, nat_le, codes, map, Option, Some, None}
 use Rattle.std.specs.Str.{bytes_eq}
-use Rattle.pj_base.specs.Interned.{found_at}
+use Rattle.pj_base.specs.Interned.{has_text}
 use Rattle.pj_words.specs.Words.{is_identifier}
 use Rattle.pj_tree.specs.declared.tree.Expr.{Expr, out-Expr}
 use Rattle.pj_tree.specs.declared.tree.Expr.TheOpen.{Expr-F}
@@ -20,7 +20,7 @@ passes good None = false
 passes good (Some text) = good text
 
 abbrev pub is_among : List (List ℕ) → List ℕ → Bool
-is_among names text = is_some (found_at text names)
+is_among names text = has_text text names
 
 abbrev pub is_operator : List ℕ → Bool
 is_operator text = bytes_eq text (codes "+") || (bytes_eq text (codes "-") || bytes_eq text (codes "*"))

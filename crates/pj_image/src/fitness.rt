@@ -12,7 +12,8 @@ use crate::measure::{declared_size, length};
 use crate::methods::{entries_placed, methods_fine};
 use crate::named::see_names;
 use crate::plain::plain_trees;
-use pj_base::{Names, NoMemory};
+use crate::seen::Seen;
+use pj_base::NoMemory;
 use pj_parts::{Part, PartFault, Tested};
 use pj_words::is_package_name;
 use std::alloc::Global;
@@ -54,7 +55,7 @@ fn others_fit(image: &Image) -> bool
 fn names_fine(alloc: Global, image: &Image) -> Result<bool, NoMemory>
     ensures { IfOk result (λ fine. fine ≡ is_some (names_of image.now)) }
 {
-    let mut seen = Names::new(alloc);
+    let mut seen = Seen::new(alloc);
     match see_names(
         alloc,
         image.strings.as_slice(),

@@ -2,10 +2,12 @@
 #![tactic(auto)]
 
 pub mod decoding;
+pub mod distinct;
 pub mod encoding;
 pub mod fault;
 pub mod fitness;
 pub mod frame;
+pub mod hashes;
 pub mod image;
 pub mod measure;
 pub mod methods;
@@ -13,6 +15,7 @@ pub mod named;
 pub mod pieces;
 pub mod plain;
 pub mod sections;
+pub mod seen;
 pub mod stages;
 
 pub use decoding::{decode, identity};

@@ -1,13 +1,14 @@
 //! The names that an image declares.
 
-ghost use Rattle.std.specs.Prelude.{◌≡◌, ◌++◌, ◌∷◌, [], ℕ, Bool, List, Option, not, map, option_map, slice_get, if◌then◌else◌, OnOk, OnSome};
+ghost use Rattle.std.specs.Prelude.{◌≡◌, ◌≤◌, ◌++◌, ◌∷◌, [], ℕ, Bool, List, Option, Some, map, length, take, drop, option_map, slice_get, OnOk, OnSome};
 ghost use Rattle.std.specs.List.{AllByRecursion};
 ghost use Rattle.pj_tree.specs.Fits.{SymFits};
-ghost use Rattle.pj_base.specs.Interned.{has_text};
-ghost use Rattle.pj_image.specs.Names.{text_of as sym_text, name_seen, all_seen};
-ghost use Rattle.pj_image.specs.Sees.{Sees};
+ghost use Rattle.pj_image.specs.Names.{text_of as sym_text, all_seen};
+ghost use Rattle.pj_image.specs.New.{all_new, name_taken, all_taken};
+ghost use Rattle.pj_image.specs.Sees.{Sees, Passes};
 
-use pj_base::{Names, NoMemory, Text};
+use crate::seen::Seen;
+use pj_base::{NoMemory, Text};
 use pj_parts::{Binding, FunDef, PartFault};
 use pj_tree::Sym;
 use pj_words::{is_base_name, is_identifier};
@@ -97,11 +98,10 @@ impl Named for Sym {
 }
 
 /// The string of a number.
-pub fn string_at(strings: &[Text], number: u32) -> Option<&str>
+pub fn string_at(strings: &[Text], number: u32) -> Option<&Text>
     ensures { option_map (λ s. s.now) result ≡ slice_get strings.now number }
 {
-    let text = at(strings, number as usize)?;
-    Some(text.as_str())
+    at(strings, number as usize)
 }
 
 /// The string that a name is.
@@ -110,31 +110,31 @@ pub fn text_of<'a>(strings: &'a [Text], name: &Sym) -> Option<&'a str>
     ensures range { OnSome result (SymFits name.now) }
 {
     match name {
-        Sym::Number(number) => string_at(strings, *number),
+        Sym::Number(number) => {
+            let text = string_at(strings, *number)?;
+            Some(text.as_str())
+        }
         Sym::Text(_) => None,
     }
 }
 
-/// Adds a text to the names seen, where it is new.
-fn see_text(alloc: Global, text: &str, seen: &mut Names) -> Result<(), PartFault>
-    ensures { Sees result seen.new (if not (has_text text.now seen.old) then Some (seen.old ++ text.now ∷ []) else None) }
+/// Adds a text to those seen.
+fn take_text<'a>(text: &'a Text, seen: &mut Seen<'a>) -> Result<(), PartFault>
+    ensures { Sees result seen.new (Some (seen.old ++ text.now ∷ [])) }
 {
-    let before = seen.len();
-    match seen.intern(alloc, text) {
-        Ok(_) if seen.len() == before => Err(PartFault::Bad),
-        Ok(_) => Ok(()),
+    match seen.add(text) {
+        Ok(()) => Ok(()),
         Err(NoMemory) => Err(PartFault::NoMemory),
     }
 }
 
-/// Adds a name to those seen, where it is a string of the image that passes, and is new.
-fn see_name<T: Named>(
-    alloc: Global,
-    strings: &[Text],
+/// Adds a name to those seen, where it is a string of the image that passes.
+fn take_name<'a, T: Named>(
+    strings: &'a [Text],
     named: &T,
-    seen: &mut Names,
+    seen: &mut Seen<'a>,
 ) -> Result<(), PartFault>
-    ensures is { Sees result seen.new (name_seen T.good strings.now seen.old (T.number_of named.now)) }
+    ensures is { Sees result seen.new (name_taken T.good strings.now seen.old (T.number_of named.now)) }
     ensures range { OnOk result (T.in_range named.now) }
 {
     let Some(number) = named.name_number() else {
@@ -143,24 +143,50 @@ fn see_name<T: Named>(
     let Some(text) = string_at(strings, number) else {
         return Err(PartFault::Bad);
     };
-    if !T::is_good(text) {
+    if !T::is_good(text.as_str()) {
         return Err(PartFault::Bad);
     }
-    see_text(alloc, text, seen)
+    take_text(text, seen)
+}
+
+/// Adds names to those seen, where each is a string of the image that passes.
+fn take_names<'a, T: Named>(
+    strings: &'a [Text],
+    all: &[T],
+    seen: &mut Seen<'a>,
+) -> Result<(), PartFault>
+    ensures is { Sees result seen.new (all_taken T.good strings.now seen.old (map T.number_of all.now)) }
+    ensures range { OnOk result (AllByRecursion T.in_range all.now) }
+{
+    for named in all {
+        take_name(strings, named, seen)?;
+    }
+    Ok(())
+}
+
+/// A fault, unless each name from this place on differs from all before it.
+fn check_new(alloc: Global, seen: &Seen, start: usize) -> Result<(), PartFault>
+    requires { start ≤ length seen.now }
+    ensures { Passes result (all_new (take start seen.now) (drop start seen.now)) }
+{
+    match seen.differ_from(alloc, start) {
+        Ok(true) => Ok(()),
+        Ok(false) => Err(PartFault::Bad),
+        Err(NoMemory) => Err(PartFault::NoMemory),
+    }
 }
 
 /// Adds names to those seen, where each is a string of the image that passes, and differs from all before it.
-pub fn see_names<T: Named>(
+pub fn see_names<'a, T: Named>(
     alloc: Global,
-    strings: &[Text],
+    strings: &'a [Text],
     all: &[T],
-    seen: &mut Names,
+    seen: &mut Seen<'a>,
 ) -> Result<(), PartFault>
     ensures is { Sees result seen.new (all_seen T.good strings.now seen.old (map T.number_of all.now)) }
     ensures range { OnOk result (AllByRecursion T.in_range all.now) }
 {
-    for named in all {
-        see_name(alloc, strings, named, seen)?;
-    }
-    Ok(())
+    let start = seen.len();
+    take_names(strings, all, seen)?;
+    check_new(alloc, seen, start)
 }

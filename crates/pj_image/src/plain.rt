@@ -10,18 +10,19 @@ ghost use Rattle.pj_tree.specs.declared.tree.Stmt.{out-Stmt};
 ghost use Rattle.pj_tree.specs.declared.tree.Body.{out-Body};
 
 use crate::named::{see_names, text_of};
-use pj_base::{Names, NoMemory, Text};
+use crate::seen::Seen;
+use pj_base::{NoMemory, Text};
 use pj_parts::PartFault;
 use pj_tree::{Body, Expr, Stmt, Sym, TreeNode};
 use std::alloc::Global;
 
 /// Whether a name is a parameter's.
-fn names_parameter(strings: &[Text], params: &Names, name: &Sym) -> bool
+fn names_parameter(strings: &[Text], params: &Seen, name: &Sym) -> bool
     ensures is { result ≡ passes (is_among params.now) (sym_text strings.now name.now) }
     ensures fits { IsTrue result → SymFits name.now }
 {
     match text_of(strings, name) {
-        Some(text) => params.find(text).is_some(),
+        Some(text) => params.has(text),
         None => false,
     }
 }
@@ -52,7 +53,7 @@ fn names_operator(strings: &[Text], name: &Sym) -> bool
 /// two arguments.
 #[cycle(plain)]
 #[tactic(auto, unfolding(crate::specs::PlainTrees::plain_expr, pj_tree::specs::Fits::ExprFits))]
-fn plain_expr(depth: u32, strings: &[Text], params: &Names, e: &Expr) -> bool
+fn plain_expr(depth: u32, strings: &[Text], params: &Seen, e: &Expr) -> bool
     ensures is { result ≡ is_plain_expr strings.now params.now depth e.now }
     ensures fits { IsTrue result → ExprFits depth e.now }
 {
@@ -63,7 +64,7 @@ fn plain_expr(depth: u32, strings: &[Text], params: &Names, e: &Expr) -> bool
 }
 
 #[cycle(plain)]
-fn plain_node(below: u32, strings: &[Text], params: &Names, e: &Expr) -> bool
+fn plain_node(below: u32, strings: &[Text], params: &Seen, e: &Expr) -> bool
     ensures is { result ≡ plain_layer strings.now params.now (is_plain_expr strings.now params.now below) (out-Expr e.now) }
     ensures fits { IsTrue result → ExprNodeFits (ExprFits below) (out-Expr e.now) }
 {
@@ -86,7 +87,7 @@ fn plain_node(below: u32, strings: &[Text], params: &Names, e: &Expr) -> bool
 }
 
 #[cycle(plain)]
-fn plain_arguments(below: u32, strings: &[Text], params: &Names, all: &[Expr]) -> bool
+fn plain_arguments(below: u32, strings: &[Text], params: &Seen, all: &[Expr]) -> bool
     ensures is { result ≡ plain_pair (is_plain_expr strings.now params.now below) all.now }
     ensures fits { IsTrue result → ListFits (ExprFits below) all.now }
 {
@@ -100,7 +101,7 @@ fn plain_arguments(below: u32, strings: &[Text], params: &Names, all: &[Expr]) -
 
 /// Whether a statement is such an expression.
 #[tactic(auto, unfolding(pj_tree::specs::Fits::StmtFits))]
-fn plain_stmt(strings: &[Text], params: &Names, s: &Stmt) -> bool
+fn plain_stmt(strings: &[Text], params: &Seen, s: &Stmt) -> bool
     ensures is { result ≡ plain_statement strings.now params.now (out-Stmt s.now) }
     ensures fits { IsTrue result → StmtFits 127 s.now }
 {
@@ -111,7 +112,7 @@ fn plain_stmt(strings: &[Text], params: &Names, s: &Stmt) -> bool
 }
 
 /// Whether a block is one such statement.
-fn plain_block(strings: &[Text], params: &Names, block: &[Stmt]) -> bool
+fn plain_block(strings: &[Text], params: &Seen, block: &[Stmt]) -> bool
     ensures is { result ≡ is_plain_block strings.now params.now block.now }
     ensures fits { IsTrue result → ListFits (StmtFits 127) block.now }
 {
@@ -129,7 +130,7 @@ fn plain_body(alloc: Global, strings: &[Text], b: &Body) -> Result<bool, NoMemor
     if b.params.len() > 16 || !b.introduced.is_empty() {
         return Ok(false);
     }
-    let mut names = Names::new(alloc);
+    let mut names = Seen::new(alloc);
     match see_names(alloc, strings, b.params.as_slice(), &mut names) {
         Ok(()) => Ok(plain_block(strings, &names, b.block.as_slice())),
         Err(PartFault::Bad) => Ok(false),

@@ -16,8 +16,9 @@ use crate::image::Image;
 use crate::methods::{entries_placed, methods_fine};
 use crate::named::{Named, see_names};
 use crate::plain::plain_trees;
+use crate::seen::Seen;
 use crate::stages::{Bodies, Declared, Ending};
-use pj_base::{Names, NoMemory, Text};
+use pj_base::{NoMemory, Text};
 use pj_parts::{Binding, FunDef, Head, Method, PartFault};
 use pj_reloc::Entry;
 use pj_tree::TreeNode;
@@ -33,12 +34,12 @@ fn has_name(name: &str, head: &Head) -> bool
 }
 
 /// Adds the names of a section to those seen, or tells its fault.
-fn see_section<T: Named>(
+fn see_section<'a, T: Named>(
     alloc: Global,
     section: u32,
-    strings: &[Text],
+    strings: &'a [Text],
     all: &[T],
-    seen: &mut Names,
+    seen: &mut Seen<'a>,
 ) -> Result<(), DecodeFault>
     ensures { SeesAt result seen.new (or_fault section (all_seen T.good strings.now seen.old (map T.number_of all.now))) }
 {
@@ -63,7 +64,7 @@ pub fn take_declared<'a>(
     let (strings, rest) = take_section::<Items<Text>>(alloc, 2, rest)?;
     let (types, rest) = take_section(alloc, 3, rest)?;
     let (functions, rest) = take_section::<Items<FunDef>>(alloc, 4, rest)?;
-    let mut seen = Names::new(alloc);
+    let mut seen = Seen::new(alloc);
     see_section(
         alloc,
         4,
@@ -73,6 +74,7 @@ pub fn take_declared<'a>(
     )?;
     let (bindings, rest) = take_section::<Items<Binding>>(alloc, 5, rest)?;
     see_section(alloc, 5, strings.as_slice(), bindings.as_slice(), &mut seen)?;
+    drop(seen);
     let (objects, rest) = take_section(alloc, 6, rest)?;
     let declared = Declared {
         head,

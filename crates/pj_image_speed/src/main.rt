@@ -5,21 +5,14 @@
 
 use anyhow::anyhow;
 use pj_image::{DecodeFault, decode};
-use pj_outside::{Depot, FolderDepot, ReadAnswer};
-use std::env;
-
-/// The longest image, in bytes.
-const LONGEST: usize = 67_108_864;
+use std::{env, fs};
 
 fn main(rt: HostRuntime) -> anyhow::Result<()> {
     let words: Vec<String> = env::args(&rt)?.skip(1).collect(rt.alloc())?;
     let [file, name] = words.as_slice() else {
         return Err(anyhow!("FILE NAME"));
     };
-    let ReadAnswer::Bytes(bytes) = FolderDepot::new(&rt).read(rt.alloc(), file.as_str(), LONGEST)
-    else {
-        return Err(anyhow!("no such file, or too long a one"));
-    };
+    let bytes = fs::read(&rt, file.as_str())?;
     match decode(rt.alloc(), bytes.as_slice(), name.as_str()) {
         Ok(image) => {
             let count = image.functions.len();

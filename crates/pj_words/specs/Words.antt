@@ -1,5 +1,5 @@
 -- Which texts are words of the language. A text is its bytes.
-use Rattle.std.specs.Prelude.{ℕ, Bool, false, not, List, [], ◌∷◌, ◌&&◌, ◌||◌, ◌==◌, length, nat_le, codes}
+use Rattle.std.specs.Prelude.{ℕ, Bool, false, not, List, [], ◌∷◌, ◌&&◌, ◌||◌, ◌==◌, length, nat_le, nat_lt, codes}
 use Rattle.std.specs.List.{list_all, list_any}
 use Rattle.std.specs.Str.{bytes_eq, chars}
 use Rattle.std.specs.Char.{is_ascii_alphanumeric, is_ascii_uppercase}
@@ -18,6 +18,10 @@ starts_name c = is_xid_start c || (c == 95)
 -- each character of an identifier is one of these: `!`, or one of Unicode's XID_Continue, to which those that begin one belong
 unfoldable pub continues_name : ℕ → Bool
 continues_name c = is_xid_continue c || (c == 33)
+
+-- of ASCII, these are letters, digits, `_` and `!`
+abbrev pub is_plain : ℕ → Bool
+is_plain c = nat_lt c 128 && ((is_ascii_alphanumeric c || (c == 95)) || (c == 33))
 
 -- the greatest length of an identifier, in bytes
 abbrev pub longest_name : ℕ

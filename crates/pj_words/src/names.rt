@@ -1,10 +1,10 @@
 //! Exact tests of names.
 ghost use Rattle.pj_words.specs.Reserved.{is_reserved};
-ghost use Rattle.pj_words.specs.Words.{base_names, continues_name, first_is, is_among, is_base_name, is_identifier, is_package_name, is_special, special_names, starts_name};
+ghost use Rattle.pj_words.specs.Words.{base_names, continues_name, first_is, is_among, is_base_name, is_identifier, is_package_name, is_plain, is_special, special_names, starts_name};
 ghost use Rattle.std.specs.Char.{is_ascii_alphanumeric, is_ascii_uppercase};
 ghost use Rattle.std.specs.List.{list_all};
 ghost use Rattle.std.specs.Str.{chars};
-ghost use Rattle.std.specs.Prelude.{◌≡◌, ◌||◌, ◌==◌, map};
+ghost use Rattle.std.specs.Prelude.{◌≡◌, ◌||◌, ◌==◌, ◌∷◌, ℕ, List, map};
 
 use crate::word::reserved_word;
 use unicode_ident::{is_xid_continue, is_xid_start};
@@ -16,39 +16,6 @@ const LONGEST_PACKAGE_NAME: usize = 64;
 const PROGRAMS: [&str; 2] = ["Base", "Main"];
 
 const SPECIAL: [&str; 4] = ["eval", "precompile", "invokelatest", "delete_method"];
-
-const BASE: [&str; 30] = [
-    "Any",
-    "Number",
-    "Real",
-    "Integer",
-    "Signed",
-    "Int64",
-    "Int",
-    "Bool",
-    "AbstractString",
-    "String",
-    "Nothing",
-    "Function",
-    "+",
-    "-",
-    "*",
-    "div",
-    "rem",
-    "==",
-    "!=",
-    "<",
-    "<=",
-    ">",
-    ">=",
-    "!",
-    "abs",
-    "min",
-    "max",
-    "print",
-    "println",
-    "error",
-];
 
 /// Whether an identifier may begin with a character: `_`, or one of Unicode's XID_Start.
 #[tactic(auto, unfolding(crate::specs::Words::starts_name))]
@@ -93,6 +60,19 @@ fn begins(text: &str) -> bool
 fn goes_on(text: &str) -> bool
     ensures { result ≡ list_all continues_name (chars text.now) }
 {
+    are_plain(text.as_bytes()) || all_go_on(text)
+}
+
+/// Whether all bytes are ASCII letters, digits, `_` or `!`. Then each is a character that goes on a name.
+fn are_plain(bytes: &[u8]) -> bool
+    ensures is { result ≡ list_all is_plain bytes.now }
+{
+    bytes.iter().all(|b| *b < 128 && (b.is_ascii_alphanumeric() || *b == b'_' || *b == b'!'))
+}
+
+fn all_go_on(text: &str) -> bool
+    ensures { result ≡ list_all continues_name (chars text.now) }
+{
     text.chars().all(|character| continues_name(character))
 }
 
@@ -134,12 +114,45 @@ fn has_plain_letters(bytes: &[u8]) -> bool
         .all(|byte| byte.is_ascii_alphanumeric() || *byte == b'_')
 }
 
+/// The names of Base that begin with a byte.
+#[tactic(auto, unfolding(crate::specs::Words::base_names, crate::specs::Words::is_among))]
+fn base_names_from(first: u8) -> &'static [&'static str]
+    ensures { (rest : List ℕ) → is_among (first ∷ rest) (map (λ t. t.now) result.now) ≡ is_base_name (first ∷ rest) }
+{
+    match first {
+        b'A' => &["Any", "AbstractString"],
+        b'B' => &["Bool"],
+        b'F' => &["Function"],
+        b'I' => &["Integer", "Int64", "Int"],
+        b'N' => &["Number", "Nothing"],
+        b'R' => &["Real"],
+        b'S' => &["Signed", "String"],
+        b'a' => &["abs"],
+        b'd' => &["div"],
+        b'e' => &["error"],
+        b'm' => &["min", "max"],
+        b'p' => &["print", "println"],
+        b'r' => &["rem"],
+        b'+' => &["+"],
+        b'-' => &["-"],
+        b'*' => &["*"],
+        b'=' => &["=="],
+        b'!' => &["!=", "!"],
+        b'<' => &["<", "<="],
+        b'>' => &[">", ">="],
+        _ => &[],
+    }
+}
+
 /// Whether Base binds a name: a type of Base, `Int` as well as `Int64`, or a function of Base.
-#[tactic(auto, unfolding(crate::specs::Words::base_names))]
+#[tactic(auto, unfolding(crate::specs::Words::base_names, crate::specs::Words::is_among))]
 pub fn is_base_name(text: &str) -> bool
     ensures { result ≡ is_base_name text.now }
 {
-    is_one_of(text, &BASE)
+    match text.as_bytes() {
+        [] => false,
+        [first, ..] => is_one_of(text, base_names_from(*first)),
+    }
 }
 
 /// Whether a name has a form of its own, so that no text binds it.

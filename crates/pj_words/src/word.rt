@@ -1,6 +1,7 @@
 //! The reserved words.
 ghost use Rattle.pj_words.specs.Reserved.{all_words, reserved_word, word_text};
-ghost use Rattle.std.specs.Prelude.{◌≡◌};
+ghost use Rattle.std.specs.Prelude.{◌≡◌, ℕ, List, ◌∷◌, find};
+ghost use Rattle.std.specs.Str.{bytes_eq};
 
 /// A word that can't be a name.
 #[derive(Clone, Copy, Debug, PartialEq, Eq)]
@@ -37,40 +38,6 @@ pub enum Word {
     Local,
     Where,
 }
-
-const ALL: [Word; 31] = [
-    Word::Module,
-    Word::End,
-    Word::Using,
-    Word::Struct,
-    Word::Function,
-    Word::If,
-    Word::ElseIf,
-    Word::Else,
-    Word::While,
-    Word::For,
-    Word::Break,
-    Word::Continue,
-    Word::Return,
-    Word::Global,
-    Word::Const,
-    Word::True,
-    Word::False,
-    Word::Nothing,
-    Word::Begin,
-    Word::Let,
-    Word::Do,
-    Word::Try,
-    Word::Catch,
-    Word::Finally,
-    Word::Quote,
-    Word::Macro,
-    Word::Import,
-    Word::Export,
-    Word::BareModule,
-    Word::Local,
-    Word::Where,
-];
 
 impl Word {
     /// The word's letters.
@@ -113,10 +80,42 @@ impl Word {
     }
 }
 
+/// The reserved words that begin with a letter.
+#[tactic(auto, unfolding(crate::specs::Reserved::reserved_word, crate::specs::Reserved::all_words))]
+fn words_from(letter: u8) -> &'static [Word]
+    ensures { (rest : List ℕ) → find (λ word. bytes_eq (word_text word) (letter ∷ rest)) result.now ≡ reserved_word (letter ∷ rest) }
+{
+    match letter {
+        b'b' => &[Word::Break, Word::Begin, Word::BareModule],
+        b'c' => &[Word::Continue, Word::Const, Word::Catch],
+        b'd' => &[Word::Do],
+        b'e' => &[Word::End, Word::ElseIf, Word::Else, Word::Export],
+        b'f' => &[Word::Function, Word::For, Word::False, Word::Finally],
+        b'g' => &[Word::Global],
+        b'i' => &[Word::If, Word::Import],
+        b'l' => &[Word::Let, Word::Local],
+        b'm' => &[Word::Module, Word::Macro],
+        b'n' => &[Word::Nothing],
+        b'q' => &[Word::Quote],
+        b'r' => &[Word::Return],
+        b's' => &[Word::Struct],
+        b't' => &[Word::True, Word::Try],
+        b'u' => &[Word::Using],
+        b'w' => &[Word::While, Word::Where],
+        _ => &[],
+    }
+}
+
 /// The reserved word that a text is.
 #[tactic(auto, unfolding(crate::specs::Reserved::reserved_word, crate::specs::Reserved::all_words))]
 pub fn reserved_word(text: &str) -> Option<Word>
     ensures { result ≡ reserved_word text.now }
 {
-    ALL.iter().find(|word| word.text() == text).copied()
+    match text.as_bytes() {
+        [] => None,
+        [first, ..] => words_from(*first)
+            .iter()
+            .find(|word| word.text() == text)
+            .copied(),
+    }
 }

@@ -1,25 +1,17 @@
-use Rattle.std.proofs.Common.{map, subst}
-use Rattle.std.proofs.lemmas.List.{take_all}
-use Rattle.std.specs.List.{AllByRecursion}
+use Rattle.std.proofs.Common.{map}
 use Rattle.std.proofs.lemmas.Result.{err_from_is_err_and}
-use Rattle.pj_image.specs.Names.{all_seen}
-use Rattle.pj_image.proofs.FitLoop.{one_more}
-use Rattle.pj_image.proofs.SeenLoop.{goes_on, fails, is_done}
+use Rattle.pj_image.proofs.TakenLaws.{behind, failing, passing}
 use Rattle.pj_image.proofs.named.see_names.Goals as goal
 
-pub returns-in_err-see_name-clause-is : goal.returns-in_err-see_name-clause-is
-returns-in_err-see_name-clause-is g c =
+pub returns-in_err-take_names-clause-is : goal.returns-in_err-take_names-clause-is
+returns-in_err-take_names-clause-is g c =
     let p = err_from_is_err_and c.from_residual.result c.from_residual.ensures.1 in
-    rw (p.1, p.2) (fails g.T.Named.number_of g.T.Named.good c.args.strings.now c.in_err-see_name.field-0.0 c.args.all.now c.loop-named.named-index c.named-item.result c.loop-named.seen (all_seen g.T.Named.good c.args.strings.now c.args.seen.now (map g.T.Named.number_of c.args.all.now)) c.loop-named-test.true c.named-item.is c.in_err-see_name.ensures.is c.loop-named.invariant.seen)
+    rw (p.1, p.2) (failing g.T.Named.good c.args.strings.now c.args.seen.now (map g.T.Named.number_of c.args.all.now) c.in_err-take_names.field-0.0 c.in_err-take_names.ensures.is)
 
-pub loop-named-preserved : goal.loop-named-preserved
-loop-named-preserved g c = record {
-  seen = goes_on g.T.Named.number_of g.T.Named.good c.args.strings.now c.args.all.now c.loop-named.named-index c.named-item.result c.loop-named.seen c.see_name.new.seen (all_seen g.T.Named.good c.args.strings.now c.args.seen.now (map g.T.Named.number_of c.args.all.now)) c.loop-named-test.true c.named-item.is c.in_ok-see_name.ensures.is c.loop-named.invariant.seen;
-  range = one_more g.T.Named.in_range c.args.all.now c.loop-named.named-index c.named-item.result c.loop-named-test.true c.named-item.is c.loop-named.invariant.range c.in_ok-see_name.ensures.range;
-}
+pub check_new-requires : goal.check_new-requires
+check_new-requires g c =
+    rw c.len-start.ensures (behind g.T.Named.good c.args.strings.now c.args.seen.now (map g.T.Named.number_of c.args.all.now) c.take_names.new.seen c.in_ok-take_names.ensures.is)
 
 pub returns-clause-is : goal.returns-clause-is
-returns-clause-is g c = is_done g.T.Named.number_of g.T.Named.good c.args.strings.now c.args.all.now c.loop-named.named-index c.loop-named.seen (all_seen g.T.Named.good c.args.strings.now c.args.seen.now (map g.T.Named.number_of c.args.all.now)) c.loop-named-test.false c.loop-named.invariant.seen
-
-pub returns-clause-range : goal.returns-clause-range
-returns-clause-range g c = subst (AllByRecursion g.T.Named.in_range) (take_all c.loop-named.named-index c.args.all.now c.loop-named-test.false) c.loop-named.invariant.range
+returns-clause-is g c =
+    passing g.T.Named.good c.args.strings.now c.args.seen.now (map g.T.Named.number_of c.args.all.now) c.check_new.result c.take_names.new.seen c.len-start.result c.len-start.ensures c.in_ok-take_names.ensures.is c.check_new.ensures

@@ -1,9 +1,8 @@
-use Rattle.std.proofs.Common.{rules, tests}
-use Rattle.std.proofs.lemmas.Iterator.{YieldsList-from_chars}
-use Rattle.std.proofs.lemmas.Iterator.Search.{all_from_yields_List}
-use Rattle.pj_words.specs.Words.{continues_name}
+use Rattle.std.proofs.Common.{sym, ap, ◌∙◌}
+use Rattle.std.specs.List.{list_all}
+use Rattle.pj_words.specs.Words.{is_plain}
+use Rattle.pj_words.proofs.Plain.{plain}
 use Rattle.pj_words.proofs.names.goes_on.Goals as goal
 
-pub returns : goal.returns
-returns c =
-    all_from_yields_List continues_name _ _ c.all.result c.all.ensures.ran (YieldsList-from_chars c.args.text.now c.utf8.text cc) (λ x b q k. search (rules, tests))
+pub returns-then-are_plain : goal.returns-then-are_plain
+returns-then-are_plain c = c.if-are_plain.true ∙ sym (plain c.args.text.now (ap (list_all is_plain) (sym c.as_bytes.ensures.value) ∙ sym c.are_plain.ensures.is ∙ c.if-are_plain.true))

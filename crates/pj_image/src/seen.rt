@@ -1,0 +1,86 @@
+//! Names that have been seen.
+
+ghost use Rattle.std.specs.Prelude.{◌≡◌, ◌∷◌, [], ◌++◌, ◌≤◌, length, take, drop, map, IfOk, OnOk, OnErr};
+ghost use Rattle.pj_base.specs.Interned.{has_text};
+ghost use Rattle.pj_image.specs.New.{all_new};
+
+use crate::distinct::Distinct;
+use crate::hashes::hashes_differ;
+use pj_base::{NoMemory, Text};
+use std::alloc::Global;
+use std::marker::Model;
+
+/// From how many texts on their hashes are compared first.
+const MANY: usize = 65_536;
+
+/// Texts of an image in the order in which they were seen. Contracts see the list.
+#[derive(Drop)]
+pub struct Seen<'a> {
+    texts: Vec<&'a Text>,
+}
+
+impl<'a> Model for Seen<'a> {
+    ghost use Rattle.std.specs.Prelude.{List, ℕ, map};
+
+    ghost Value = { List (List ℕ) };
+
+    ghost view = { λ s. map (λ t. t.now) s.texts.items };
+}
+
+/// Whether each text from this place on differs from all before it.
+fn exactly(alloc: Global, texts: &[&Text], start: usize) -> Result<bool, NoMemory>
+    requires { start ≤ length texts.now }
+    ensures { IfOk result (λ differ. differ ≡ all_new (take start (map (λ t. t.now) texts.now)) (drop start (map (λ t. t.now) texts.now))) }
+{
+    let (before, behind) = texts.split_at(start);
+    let mut distinct = Distinct::new(alloc);
+    distinct.add_all(before)?;
+    distinct.add_new(behind)
+}
+
+impl<'a> Seen<'a> {
+    /// No texts. It takes no memory.
+    pub fn new(alloc: Global) -> Seen<'a>
+        ensures { result ≡ [] }
+    {
+        Seen {
+            texts: Vec::new(alloc),
+        }
+    }
+
+    /// How many texts there are.
+    pub fn len(&self) -> usize
+        ensures { result ≡ length self.now }
+    {
+        self.texts.len()
+    }
+
+    /// Adds a text last. Without memory nothing changes.
+    pub fn add(&mut self, text: &'a Text) -> Result<(), NoMemory>
+        ensures added { OnOk result (self.new ≡ self.old ++ text.now ∷ []) }
+        ensures unchanged { OnErr result (self.new ≡ self.old) }
+    {
+        self.texts.push(text)?;
+        Ok(())
+    }
+
+    /// Whether a text is there.
+    pub fn has(&self, text: &str) -> bool
+        ensures { result ≡ has_text text.now self.now }
+    {
+        self.texts.as_slice().iter().any(|t| text == t.as_str())
+    }
+
+    /// Whether each text from this place on differs from all before it. It tells this by hashes where there are many texts
+    /// and no two hashes are equal.
+    pub fn differ_from(&self, alloc: Global, start: usize) -> Result<bool, NoMemory>
+        requires { start ≤ length self.now }
+        ensures { IfOk result (λ differ. differ ≡ all_new (take start self.now) (drop start self.now)) }
+    {
+        let texts = self.texts.as_slice();
+        if texts.len() > MANY && hashes_differ(alloc, texts)? {
+            return Ok(true);
+        }
+        exactly(alloc, texts, start)
+    }
+}

@@ -1,0 +1,9 @@
+use Rattle.std.proofs.Common.{rules, tests}
+use Rattle.std.proofs.lemmas.Iterator.{YieldsList-from_chars}
+use Rattle.std.proofs.lemmas.Iterator.Search.{all_from_yields_List}
+use Rattle.pj_words.specs.Words.{continues_name}
+use Rattle.pj_words.proofs.names.all_go_on.Goals as goal
+
+pub returns : goal.returns
+returns c =
+    all_from_yields_List continues_name _ _ c.all.result c.all.ensures.ran (YieldsList-from_chars c.args.text.now c.utf8.text cc) (λ x b q k. search (rules, tests))
