@@ -1,0 +1,4 @@
+pub mod LocatedLaws
+pub mod FirstLaws
+pub mod NameLaws
+pub mod ValueLaws

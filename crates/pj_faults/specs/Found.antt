@@ -1,0 +1,33 @@
+-- The fault that counts in each part of a text's trees.
+use Rattle.std.specs.Prelude.{ℕ, Bool, true, false, not, ◌&&◌, List, [], ◌∷◌, ◌++◌, map, Option, Some, None}
+use Rattle.pj_syntax.specs.declared.expression.Spot.{Spot}
+use Rattle.pj_syntax.specs.declared.expression.Path.{Path}
+use Rattle.pj_syntax.specs.declared.expression.Argument.{Argument}
+use Rattle.pj_syntax.specs.declared.expression.Expr.{Expr}
+use Rattle.pj_syntax.specs.declared.statement.Param.{Param}
+use Rattle.pj_syntax.specs.declared.statement.Stmt.{Stmt}
+use Rattle.pj_syntax.specs.declared.statement.Function.{Function}
+use Rattle.pj_syntax.specs.declared.statement.Payload.{Payload}
+use Rattle.pj_syntax.specs.declared.item.Item.{Item}
+use Rattle.pj_syntax.specs.declared.item.Script.{Script}
+use Rattle.pj_syntax.specs.declared.item.Package.{Package}
+use Rattle.pj_faults.specs.declared.fault.Fault.{Fault}
+use Rattle.pj_faults.specs.First.{first}
+use Rattle.pj_faults.specs.Located.{Text, value_of, arguments_of, statement_of, block_of, evaluated_of, method_of}
+use Rattle.pj_faults.specs.Introduced.{with_name, with_names, new_names, assigned, assigned_by, looped, looped_by, named, body_names}
+use Rattle.pj_faults.specs.Faults as f
+use Rattle.pj_faults.specs.Faults.{beyond, places_of, at_of, text_of, param_at, path_at}
+
+-- ---- expressions
+
+unfoldable pub read_first : List Text → List Text → Path → Option Fault
+read_first names loops p = first (f.read names loops p)
+
+unfoldable pub many_arguments : List Argument → Option Fault
+many_arguments es = first (beyond 16 (places_of (arguments_of es)))
+
+unfoldable pub value_first : List Text → List Text → Expr → Option Fault
+value_first names loops e = first (f.value_faults names loops (value_of e))
+
+unfoldable pub arguments_first : List Text → List Text → List Argument → Option Fault
+arguments_first names loops es = first (f.argument_faults names loops (arguments_of es))

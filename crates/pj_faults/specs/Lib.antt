@@ -1,0 +1,6 @@
+pub mod Located
+pub mod First
+pub mod Introduced
+pub mod Sorted
+pub mod Faults
+pub mod Found

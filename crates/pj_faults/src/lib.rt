@@ -1,0 +1,9 @@
+//! The faults of names and scopes in a text: the first is told, with its place.
+#![tactic(auto)]
+
+pub mod expression;
+pub mod fault;
+pub mod names;
+
+pub use fault::{Fault, ScopeKind};
+pub use names::NameSet;
