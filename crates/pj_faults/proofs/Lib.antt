@@ -2,3 +2,5 @@ pub mod LocatedLaws
 pub mod FirstLaws
 pub mod NameLaws
 pub mod ValueLaws
+pub mod NamesLaws
+pub mod BoundLaws

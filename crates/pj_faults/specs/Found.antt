@@ -31,3 +31,26 @@ value_first names loops e = first (f.value_faults names loops (value_of e))
 
 unfoldable pub arguments_first : List Text → List Text → List Argument → Option Fault
 arguments_first names loops es = first (f.argument_faults names loops (arguments_of es))
+
+-- ---- names that are bound, and lists of parameters and fields
+
+unfoldable pub bound_first : List Text → Spot → Option Fault
+bound_first modules x = first (f.bound modules x)
+
+unfoldable pub bound_path_first : List Text → Path → Option Fault
+bound_path_first modules p = first (f.bound_path modules p)
+
+unfoldable pub params_bound : List Text → List Param → Option Fault
+params_bound modules params = first (f.all_bound modules (named params))
+
+unfoldable pub seen_after : List Text → List Param → List Text
+seen_after seen params = with_names seen (named params)
+
+unfoldable pub params_repeated : List Text → List Param → Option Fault
+params_repeated seen params = first (f.repeated seen (named params))
+
+unfoldable pub many_params : List Param → Option Fault
+many_params params = first (beyond 16 (map param_at params))
+
+unfoldable pub list_first : List Param → Option Fault
+list_first params = first (f.list_faults params)

@@ -1,6 +1,7 @@
 //! The faults of names and scopes in a text: the first is told, with its place.
 #![tactic(auto)]
 
+pub mod bound;
 pub mod expression;
 pub mod fault;
 pub mod names;
