@@ -4,3 +4,5 @@ pub mod NameLaws
 pub mod ValueLaws
 pub mod NamesLaws
 pub mod BoundLaws
+pub mod ScopeLaws
+pub mod SortLaws

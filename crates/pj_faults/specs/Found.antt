@@ -12,7 +12,9 @@ use Rattle.pj_syntax.specs.declared.item.Item.{Item}
 use Rattle.pj_syntax.specs.declared.item.Script.{Script}
 use Rattle.pj_syntax.specs.declared.item.Package.{Package}
 use Rattle.pj_faults.specs.declared.fault.Fault.{Fault}
+use Rattle.pj_faults.specs.declared.gather.Gathered.{Gathered}
 use Rattle.pj_faults.specs.First.{first}
+use Rattle.pj_faults.specs.Sorted.{sorted}
 use Rattle.pj_faults.specs.Located.{Text, value_of, arguments_of, statement_of, block_of, evaluated_of, method_of}
 use Rattle.pj_faults.specs.Introduced.{with_name, with_names, new_names, assigned, assigned_by, looped, looped_by, named, body_names}
 use Rattle.pj_faults.specs.Faults as f
@@ -54,3 +56,30 @@ many_params params = first (beyond 16 (map param_at params))
 
 unfoldable pub list_first : List Param → Option Fault
 list_first params = first (f.list_faults params)
+
+-- ---- names that scopes introduce
+
+unfoldable pub grown : List Text → List Stmt → List Text
+grown names b = with_names names (assigned (block_of b))
+
+unfoldable pub grown_by : List Text → Stmt → List Text
+grown_by names s = with_names names (assigned_by (statement_of s))
+
+unfoldable pub new_in : List Text → List Stmt → List Spot
+new_in names b = new_names names (assigned (block_of b))
+
+unfoldable pub new_by : List Text → Stmt → List Spot
+new_by names s = new_names names (assigned_by (statement_of s))
+
+unfoldable pub looped_in : List Text → List Stmt → List Spot
+looped_in names b = looped names (block_of b)
+
+unfoldable pub looped_stmt : List Text → Stmt → List Spot
+looped_stmt names s = looped_by names (statement_of s)
+
+-- places and names with those of some more tokens
+unfoldable pub gathered : Gathered → List Spot → Gathered
+gathered g xs = record { places = g.places ++ map at_of xs; names = with_names g.names xs }
+
+unfoldable pub crowded_first : List ℕ → Option Fault
+crowded_first places = first (beyond 1024 (sorted places))

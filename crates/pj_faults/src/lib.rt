@@ -2,8 +2,11 @@
 #![tactic(auto)]
 
 pub mod bound;
+pub mod crowded;
+pub mod enter;
 pub mod expression;
 pub mod fault;
+pub mod gather;
 pub mod names;
 
 pub use fault::{Fault, ScopeKind};
