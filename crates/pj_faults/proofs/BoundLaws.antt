@@ -36,10 +36,10 @@ bound-Of modules m x = first-none
 
 -- lists of parameters, one more at a time
 
-own : (p : Param) (name : Option Spot) → p.name ≡ name → named (p ∷ []) ≡ own_name name
+pub own : (p : Param) (name : Option Spot) → p.name ≡ name → named (p ∷ []) ≡ own_name name
 own p name h = append-nil (own_name p.name) ∙ ap own_name h
 
-named-append : (ps qs : List Param) → named (ps ++ qs) ≡ named ps ++ named qs
+pub named-append : (ps qs : List Param) → named (ps ++ qs) ≡ named ps ++ named qs
 named-append [] qs = refl
 named-append (p ∷ ps) qs = ap (λ xs. own_name p.name ++ xs) (named-append ps qs) ∙ sym (append_assoc (own_name p.name) (named ps) (named qs))
 

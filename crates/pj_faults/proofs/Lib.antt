@@ -6,3 +6,5 @@ pub mod NamesLaws
 pub mod BoundLaws
 pub mod ScopeLaws
 pub mod SortLaws
+pub mod UnitLaws
+pub mod StatementLaws

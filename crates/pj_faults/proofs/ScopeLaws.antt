@@ -14,7 +14,7 @@ use Rattle.pj_faults.specs.Found.{grown, grown_by, new_in, new_by, looped_in, lo
 use Rattle.pj_faults.proofs.LocatedLaws as l
 use Rattle.pj_faults.proofs.NamesLaws.{Behind, with_names-none, with_names-one, with_names-append, new_names-none, new_names-append, new_names-known, new_names-new, behind_one, behind_further, behind_all, take_behind}
 
-statements-snoc : (b : List Stmt) (x : Stmt) → map statement_of (b ++ x ∷ []) ≡ map statement_of b ++ statement_of x ∷ []
+pub statements-snoc : (b : List Stmt) (x : Stmt) → map statement_of (b ++ x ∷ []) ≡ map statement_of b ++ statement_of x ∷ []
 statements-snoc [] x = refl
 statements-snoc (y ∷ b) x = ap (λ t. statement_of y ∷ t) (statements-snoc b x)
 

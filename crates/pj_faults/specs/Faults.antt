@@ -96,8 +96,9 @@ at_of x = x.at
 abbrev pub crowded : List Spot → List Fault
 crowded introduced = beyond 1024 (sorted (map at_of introduced))
 
-abbrev pub text_of : Spot → Text
-text_of x = x.text
+-- the names of tokens, each once
+abbrev pub names_of : List Spot → List Text
+names_of xs = with_names [] xs
 
 -- GlobalLocal: a scope of the same body or statement introduces the name. The place is that of the word `global`.
 abbrev pub shadowed : List Text → List Text → ℕ → Spot → List Fault
@@ -147,13 +148,13 @@ abbrev mutual
       bound_path modules path
       ++ (list_faults params
       ++ (all_bound modules (named params)
-      ++ (crowded (new_names [] (body_names params b) ++ looped (with_names [] (body_names params b)) b)
-      ++ block_faults modules (map text_of (looped (with_names [] (body_names params b)) b)) true false (with_names [] (body_names params b)) b)))
+      ++ (crowded (new_names [] (body_names params b) ++ looped (names_of (body_names params b)) b)
+      ++ block_faults modules (names_of (looped (names_of (body_names params b)) b)) true false (names_of (body_names params b)) b)))
 
 -- a statement at top level
 abbrev pub run_faults : List Text → Statement → List Fault
 run_faults modules s =
-    crowded (looped_by [] s) ++ statement_faults modules (map text_of (looped_by [] s)) false false [] s
+    crowded (looped_by [] s) ++ statement_faults modules (names_of (looped_by [] s)) false false [] s
 
 -- `using` names packages alone
 abbrev pub used : Spot → List Fault

@@ -8,6 +8,8 @@ pub mod expression;
 pub mod fault;
 pub mod gather;
 pub mod names;
+pub mod statement;
+pub mod unit;
 
 pub use fault::{Fault, ScopeKind};
 pub use names::NameSet;
