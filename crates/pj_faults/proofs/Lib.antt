@@ -8,3 +8,4 @@ pub mod ScopeLaws
 pub mod SortLaws
 pub mod UnitLaws
 pub mod StatementLaws
+pub mod ItemLaws

@@ -148,10 +148,15 @@ item_first modules i = first (f.item_faults modules i)
 unfoldable pub items_first : List Text → List Item → Option Fault
 items_first modules is = first (f.all_items modules is)
 
+-- each name once
+unfoldable pub distinct : List Text → List Text → List Text
+distinct seen [] = seen
+distinct seen (x ∷ xs) = distinct (with_name seen x) xs
+
 -- the fault of a script that counts, or none
 unfoldable pub script_first : List Text → Script → Option Fault
-script_first modules s = first (f.script_faults modules s)
+script_first modules s = first (f.script_faults (distinct [] modules) s)
 
 -- the fault of a package that counts, or none
 unfoldable pub package_first : List Text → Text → Package → Option Fault
-package_first modules asked p = first (f.package_faults modules asked p)
+package_first modules asked p = first (f.package_faults (distinct [] modules) asked p)

@@ -19,8 +19,8 @@ fn enter_stmt(alloc: Global, names: &mut NameSet, s: &Stmt) -> Result<(), NoMemo
             Ok(())
         }
         Stmt::If(_, chosen, other) => {
-            enter(alloc, names, chosen.as_slice())?;
-            enter(alloc, names, other.as_slice())
+            enter_block(alloc, names, chosen.as_slice())?;
+            enter_block(alloc, names, other.as_slice())
         }
         Stmt::Value(_) | Stmt::SetField(_, _, _) | Stmt::Global(_, _, _) => Ok(()),
         Stmt::Return(_, _) | Stmt::Break(_) | Stmt::Continue(_) => Ok(()),
@@ -31,7 +31,7 @@ fn enter_stmt(alloc: Global, names: &mut NameSet, s: &Stmt) -> Result<(), NoMemo
 /// Adds the names that a block assigns directly in its scope. Names that answered an `Err` are of no more use.
 #[cycle(enter)]
 #[tactic(auto, using(crate::proofs::ScopeLaws::enter_rules))]
-pub fn enter(alloc: Global, names: &mut NameSet, block: &[Stmt]) -> Result<(), NoMemory>
+pub fn enter_block(alloc: Global, names: &mut NameSet, block: &[Stmt]) -> Result<(), NoMemory>
     ensures { OnOk result (names.new ≡ grown names.old block.now) }
 {
     for s in block {

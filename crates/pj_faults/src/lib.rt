@@ -7,9 +7,12 @@ pub mod enter;
 pub mod expression;
 pub mod fault;
 pub mod gather;
+pub mod item;
 pub mod names;
 pub mod statement;
 pub mod unit;
 
 pub use fault::{Fault, ScopeKind};
+pub use enter::enter_block;
+pub use item::{package_fault, script_fault};
 pub use names::NameSet;

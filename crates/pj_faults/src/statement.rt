@@ -5,7 +5,7 @@ ghost use Rattle.pj_faults.specs.Found.{block_first, bound_first, evaluated_firs
 
 use crate::bound::{bound_fault, bound_path_fault, list_fault, params_bound_fault};
 use crate::crowded::crowded_fault;
-use crate::enter::enter;
+use crate::enter::enter_block;
 use crate::expression::value_fault;
 use crate::fault::{Fault, ScopeKind, sooner, when};
 use crate::names::NameSet;
@@ -56,7 +56,7 @@ fn while_fault(alloc: Global, modules: &NameSet, loops: &NameSet, in_body: bool,
     ensures found { IfOk result (λ found. found ≡ block_first modules.now loops.now (record { in_body = in_body; in_loop = true }) (grown names.old block.now) block.now) }
 {
     let count = names.len();
-    enter(alloc, names, block)?;
+    enter_block(alloc, names, block)?;
     let within = Within {
         in_body,
         in_loop: true,
@@ -74,7 +74,7 @@ fn for_fault(alloc: Global, modules: &NameSet, loops: &NameSet, in_body: bool, n
 {
     let count = names.len();
     let _ = names.add(alloc, x.text.as_str())?;
-    enter(alloc, names, block)?;
+    enter_block(alloc, names, block)?;
     let within = Within {
         in_body,
         in_loop: true,

@@ -3,5 +3,5 @@ use Rattle.std.proofs.lemmas.Grind.{common_steps}
 use Rattle.pj_faults.proofs.ScopeLaws.{enter_rules}
 use Rattle.pj_faults.proofs.enter.+enter.Goals as goal
 
-pub enter-loop-s-preserved : goal.enter-loop-s-preserved
-enter-loop-s-preserved t c = grind (arith, common_steps, enter_rules)
+pub enter_block-loop-s-preserved : goal.enter_block-loop-s-preserved
+enter_block-loop-s-preserved t c = grind (arith, common_steps, enter_rules)
