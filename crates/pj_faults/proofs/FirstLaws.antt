@@ -15,10 +15,10 @@ unfolding sooner
 none-sooner a = refl
 
 -- pairs of numbers in order
-lex : ℕ → ℕ → ℕ → ℕ → Bool
+unfoldable pub lex : ℕ → ℕ → ℕ → ℕ → Bool
 lex p i q j = nat_lt p q || ((p == q) && nat_lt i j)
 
-lex_true : (p i q j : ℕ) → lex p i q j ≡ true → (p < q) ⊎ ((p ≡ q) × (i < j))
+pub lex_true : (p i q j : ℕ) → lex p i q j ≡ true → (p < q) ⊎ ((p ≡ q) × (i < j))
 unfolding lex
 lex_true p i q j h = grind arith
 
@@ -34,11 +34,11 @@ lex_same : (p i q j : ℕ) → p ≡ q → i < j → lex p i q j ≡ true
 unfolding lex
 lex_same p i q j h k = grind arith
 
-lex_more : (p i q j : ℕ) → q < p → lex p i q j ≡ false
+pub lex_more : (p i q j : ℕ) → q < p → lex p i q j ≡ false
 unfolding lex
 lex_more p i q j h = grind arith
 
-lex_not : (p i q j : ℕ) → p ≡ q → j ≤ i → lex p i q j ≡ false
+pub lex_not : (p i q j : ℕ) → p ≡ q → j ≤ i → lex p i q j ≡ false
 unfolding lex
 lex_not p i q j h k = grind arith
 
@@ -64,7 +64,7 @@ before-trans : (a b c : Fault) → before b a ≡ true → before c b ≡ true �
 unfolding before lex
 before-trans a b c h k = lex_trans c.place (rank c.kind) b.place (rank b.kind) a.place (rank a.kind) k h
 
-before-not : (a b c : Fault) → before b a ≡ false → before c b ≡ false → before c a ≡ false
+pub before-not : (a b c : Fault) → before b a ≡ false → before c b ≡ false → before c a ≡ false
 unfolding before lex
 before-not a b c h k = lex_none c.place (rank c.kind) b.place (rank b.kind) a.place (rank a.kind) k h
 

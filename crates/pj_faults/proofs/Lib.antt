@@ -9,3 +9,4 @@ pub mod SortLaws
 pub mod UnitLaws
 pub mod StatementLaws
 pub mod ItemLaws
+pub mod CountingLaws

@@ -35,7 +35,7 @@ first_new : (names : List Text) (x : Spot) (xs ys : List Spot) (b : Bool) → is
     → (new_names names (xs ++ ys) ≡ new_names names xs ++ new_names (with_names names xs) ys)
     → (new_names (with_name names x.text) (xs ++ ys) ≡ new_names (with_name names x.text) xs ++ new_names (with_names (with_name names x.text) xs) ys)
     → cond b (new_names names (xs ++ ys)) (x ∷ new_names (with_name names x.text) (xs ++ ys))
-      ≡ cond b (new_names names xs) (x ∷ new_names (with_name names x.text) xs) ++ new_names (with_names (with_name names x.text) xs) ys
+    ≡ cond b (new_names names xs) (x ∷ new_names (with_name names x.text) xs) ++ new_names (with_names (with_name names x.text) xs) ys
 first_new names x xs ys true h same other = same ∙ ap (λ ns. new_names names xs ++ new_names (with_names ns xs) ys) (sym (name_known names x.text true h refl))
 first_new names x xs ys false h same other = ap (λ t. x ∷ t) other
 

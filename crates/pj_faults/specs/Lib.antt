@@ -4,3 +4,5 @@ pub mod Introduced
 pub mod Sorted
 pub mod Faults
 pub mod Found
+pub mod Counting
+pub mod Rows

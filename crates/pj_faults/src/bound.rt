@@ -55,7 +55,11 @@ pub fn params_bound_fault(modules: &NameSet, params: &[Param]) -> Option<Fault>
 
 /// The fault of a name that stands among those before it, to which it is added.
 #[tactic(auto, using(crate::proofs::BoundLaws::bound_rules))]
-fn param_repeated(alloc: Global, seen: &mut NameSet, param: &Param) -> Result<Option<Fault>, NoMemory>
+fn param_repeated(
+    alloc: Global,
+    seen: &mut NameSet,
+    param: &Param,
+) -> Result<Option<Fault>, NoMemory>
     ensures found { IfOk result (λ found. found ≡ params_repeated seen.old (param.now ∷ [])) }
     ensures seen { OnOk result (seen.new ≡ seen_after seen.old (param.now ∷ [])) }
 {

@@ -41,7 +41,12 @@ impl Gathered {
 
 /// Adds a name to those of a scope, and its token to what is gathered where the name is new. After an `Err` neither is of more use.
 #[tactic(auto, using(crate::proofs::ScopeLaws::gather_rules))]
-pub fn put_new(alloc: Global, names: &mut NameSet, out: &mut Gathered, x: &Spot) -> Result<(), NoMemory>
+pub fn put_new(
+    alloc: Global,
+    names: &mut NameSet,
+    out: &mut Gathered,
+    x: &Spot,
+) -> Result<(), NoMemory>
     ensures names { OnOk result (names.new ≡ with_name names.old x.now.text) }
     ensures out { OnOk result (out.new ≡ gathered out.old (new_names names.old (x.now ∷ []))) }
 {
@@ -53,7 +58,12 @@ pub fn put_new(alloc: Global, names: &mut NameSet, out: &mut Gathered, x: &Spot)
 
 #[cycle(put)]
 #[tactic(auto, using(crate::proofs::ScopeLaws::gather_rules))]
-fn put_stmt(alloc: Global, names: &mut NameSet, out: &mut Gathered, s: &Stmt) -> Result<(), NoMemory>
+fn put_stmt(
+    alloc: Global,
+    names: &mut NameSet,
+    out: &mut Gathered,
+    s: &Stmt,
+) -> Result<(), NoMemory>
     ensures names { OnOk result (names.new ≡ grown_by names.old s.now) }
     ensures out { OnOk result (out.new ≡ gathered out.old (new_by names.old s.now)) }
 {
@@ -73,7 +83,12 @@ fn put_stmt(alloc: Global, names: &mut NameSet, out: &mut Gathered, s: &Stmt) ->
 /// more use.
 #[cycle(put)]
 #[tactic(auto, using(crate::proofs::ScopeLaws::gather_rules))]
-pub fn put_block(alloc: Global, names: &mut NameSet, out: &mut Gathered, block: &[Stmt]) -> Result<(), NoMemory>
+pub fn put_block(
+    alloc: Global,
+    names: &mut NameSet,
+    out: &mut Gathered,
+    block: &[Stmt],
+) -> Result<(), NoMemory>
     ensures names { OnOk result (names.new ≡ grown names.old block.now) }
     ensures out { OnOk result (out.new ≡ gathered out.old (new_in names.old block.now)) }
 {
@@ -85,7 +100,12 @@ pub fn put_block(alloc: Global, names: &mut NameSet, out: &mut Gathered, block: 
 
 #[cycle(gather)]
 #[tactic(auto, using(crate::proofs::ScopeLaws::gather_rules))]
-fn gather_while(alloc: Global, names: &mut NameSet, out: &mut Gathered, block: &[Stmt]) -> Result<(), NoMemory>
+fn gather_while(
+    alloc: Global,
+    names: &mut NameSet,
+    out: &mut Gathered,
+    block: &[Stmt],
+) -> Result<(), NoMemory>
     ensures names { OnOk result (names.new ≡ names.old) }
     ensures out { OnOk result (out.new ≡ gathered (gathered out.old (new_in names.old block.now)) (looped_in (grown names.old block.now) block.now)) }
 {
@@ -98,7 +118,13 @@ fn gather_while(alloc: Global, names: &mut NameSet, out: &mut Gathered, block: &
 
 #[cycle(gather)]
 #[tactic(auto, using(crate::proofs::ScopeLaws::gather_rules))]
-fn gather_for(alloc: Global, names: &mut NameSet, out: &mut Gathered, x: &Spot, block: &[Stmt]) -> Result<(), NoMemory>
+fn gather_for(
+    alloc: Global,
+    names: &mut NameSet,
+    out: &mut Gathered,
+    x: &Spot,
+    block: &[Stmt],
+) -> Result<(), NoMemory>
     ensures names { OnOk result (names.new ≡ names.old) }
     ensures out { OnOk result (out.new ≡ gathered (gathered (gathered out.old (x.now ∷ [])) (new_in (with_name names.old x.now.text) block.now)) (looped_in (grown (with_name names.old x.now.text) block.now) block.now)) }
 {
@@ -114,7 +140,12 @@ fn gather_for(alloc: Global, names: &mut NameSet, out: &mut Gathered, x: &Spot, 
 /// Gathers what the loops of a statement introduce, where enclosing scopes introduce `names`. After an `Err` neither is of more use.
 #[cycle(gather)]
 #[tactic(auto, using(crate::proofs::ScopeLaws::gather_rules))]
-pub fn gather_stmt(alloc: Global, names: &mut NameSet, out: &mut Gathered, s: &Stmt) -> Result<(), NoMemory>
+pub fn gather_stmt(
+    alloc: Global,
+    names: &mut NameSet,
+    out: &mut Gathered,
+    s: &Stmt,
+) -> Result<(), NoMemory>
     ensures names { OnOk result (names.new ≡ names.old) }
     ensures out { OnOk result (out.new ≡ gathered out.old (looped_stmt names.old s.now)) }
 {
@@ -134,7 +165,12 @@ pub fn gather_stmt(alloc: Global, names: &mut NameSet, out: &mut Gathered, s: &S
 /// Gathers what the loops of a block introduce, where enclosing scopes introduce `names`. After an `Err` neither is of more use.
 #[cycle(gather)]
 #[tactic(auto, using(crate::proofs::ScopeLaws::gather_rules))]
-pub fn gather(alloc: Global, names: &mut NameSet, out: &mut Gathered, block: &[Stmt]) -> Result<(), NoMemory>
+pub fn gather(
+    alloc: Global,
+    names: &mut NameSet,
+    out: &mut Gathered,
+    block: &[Stmt],
+) -> Result<(), NoMemory>
     ensures names { OnOk result (names.new ≡ names.old) }
     ensures out { OnOk result (out.new ≡ gathered out.old (looped_in names.old block.now)) }
 {

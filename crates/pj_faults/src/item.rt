@@ -27,11 +27,7 @@ fn used_fault(names: &[Spot]) -> Option<Fault>
 {
     let mut found = None;
     for x in names {
-        let used = when(
-            is_no_package(x.text.as_str()),
-            ScopeKind::ModuleName,
-            x.at,
-        );
+        let used = when(is_no_package(x.text.as_str()), ScopeKind::ModuleName, x.at);
         found = sooner(found, used);
     }
     found
@@ -103,7 +99,11 @@ fn module_names(alloc: Global, modules: &[Text]) -> Result<NameSet, NoMemory>
 
 /// The fault of a script that counts, or None where it has none. `modules` are the names of its modules.
 #[tactic(auto, using(crate::proofs::ItemLaws::item_rules))]
-pub fn script_fault(alloc: Global, modules: &[Text], script: &Script) -> Result<Option<Fault>, NoMemory>
+pub fn script_fault(
+    alloc: Global,
+    modules: &[Text],
+    script: &Script,
+) -> Result<Option<Fault>, NoMemory>
     ensures { IfOk result (λ found. found ≡ script_first modules.now script.now) }
 {
     let names = module_names(alloc, modules)?;
@@ -120,7 +120,12 @@ fn is_another(text: &str, asked: &str) -> bool
 /// The fault of a package that counts, or None where it has none. `modules` are the names of its modules, and `asked` is the name
 /// that is asked for.
 #[tactic(auto, using(crate::proofs::ItemLaws::item_rules))]
-pub fn package_fault(alloc: Global, modules: &[Text], asked: &str, tree: &Package) -> Result<Option<Fault>, NoMemory>
+pub fn package_fault(
+    alloc: Global,
+    modules: &[Text],
+    asked: &str,
+    tree: &Package,
+) -> Result<Option<Fault>, NoMemory>
     ensures { IfOk result (λ found. found ≡ package_first modules.now asked.now tree.now) }
 {
     let names = module_names(alloc, modules)?;

@@ -8,11 +8,13 @@ pub mod expression;
 pub mod fault;
 pub mod gather;
 pub mod item;
+pub mod laws;
 pub mod names;
+pub mod rows;
 pub mod statement;
 pub mod unit;
 
-pub use fault::{Fault, ScopeKind};
 pub use enter::enter_block;
+pub use fault::{Fault, ScopeKind};
 pub use item::{package_fault, script_fault};
 pub use names::NameSet;

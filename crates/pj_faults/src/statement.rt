@@ -51,7 +51,14 @@ fn returned_fault(names: &NameSet, loops: &NameSet, value: &Option<Expr>) -> Opt
 
 #[cycle(statement)]
 #[tactic(auto, using(crate::proofs::StatementLaws::statement_rules))]
-fn while_fault(alloc: Global, modules: &NameSet, loops: &NameSet, in_body: bool, names: &mut NameSet, block: &[Stmt]) -> Result<Option<Fault>, NoMemory>
+fn while_fault(
+    alloc: Global,
+    modules: &NameSet,
+    loops: &NameSet,
+    in_body: bool,
+    names: &mut NameSet,
+    block: &[Stmt],
+) -> Result<Option<Fault>, NoMemory>
     ensures names { OnOk result (names.new ≡ names.old) }
     ensures found { IfOk result (λ found. found ≡ block_first modules.now loops.now (record { in_body = in_body; in_loop = true }) (grown names.old block.now) block.now) }
 {
@@ -68,7 +75,15 @@ fn while_fault(alloc: Global, modules: &NameSet, loops: &NameSet, in_body: bool,
 
 #[cycle(statement)]
 #[tactic(auto, using(crate::proofs::StatementLaws::statement_rules))]
-fn for_fault(alloc: Global, modules: &NameSet, loops: &NameSet, in_body: bool, names: &mut NameSet, x: &Spot, block: &[Stmt]) -> Result<Option<Fault>, NoMemory>
+fn for_fault(
+    alloc: Global,
+    modules: &NameSet,
+    loops: &NameSet,
+    in_body: bool,
+    names: &mut NameSet,
+    x: &Spot,
+    block: &[Stmt],
+) -> Result<Option<Fault>, NoMemory>
     ensures names { OnOk result (names.new ≡ names.old) }
     ensures found { IfOk result (λ found. found ≡ block_first modules.now loops.now (record { in_body = in_body; in_loop = true }) (grown (with_name names.old x.now.text) block.now) block.now) }
 {
@@ -88,7 +103,14 @@ fn for_fault(alloc: Global, modules: &NameSet, loops: &NameSet, in_body: bool, n
 /// `loops`. After an `Err` the names are of no more use.
 #[cycle(statement)]
 #[tactic(auto, using(crate::proofs::StatementLaws::statement_rules))]
-fn statement_fault(alloc: Global, modules: &NameSet, loops: &NameSet, within: Within, names: &mut NameSet, s: &Stmt) -> Result<Option<Fault>, NoMemory>
+fn statement_fault(
+    alloc: Global,
+    modules: &NameSet,
+    loops: &NameSet,
+    within: Within,
+    names: &mut NameSet,
+    s: &Stmt,
+) -> Result<Option<Fault>, NoMemory>
     ensures names { OnOk result (names.new ≡ names.old) }
     ensures found { IfOk result (λ found. found ≡ statement_first modules.now loops.now within names.old s.now) }
 {
@@ -118,13 +140,31 @@ fn statement_fault(alloc: Global, modules: &NameSet, loops: &NameSet, within: Wi
         }
         Stmt::While(test, block) => {
             let test = value_fault(names, loops, test);
-            let inner = while_fault(alloc, modules, loops, within.in_body, names, block.as_slice())?;
+            let inner = while_fault(
+                alloc,
+                modules,
+                loops,
+                within.in_body,
+                names,
+                block.as_slice(),
+            )?;
             Ok(sooner(test, inner))
         }
         Stmt::For(x, first, last, block) => {
-            let bounds = sooner(value_fault(names, loops, first), value_fault(names, loops, last));
+            let bounds = sooner(
+                value_fault(names, loops, first),
+                value_fault(names, loops, last),
+            );
             let head = sooner(bound_fault(modules, x), bounds);
-            let inner = for_fault(alloc, modules, loops, within.in_body, names, x, block.as_slice())?;
+            let inner = for_fault(
+                alloc,
+                modules,
+                loops,
+                within.in_body,
+                names,
+                x,
+                block.as_slice(),
+            )?;
             Ok(sooner(head, inner))
         }
         Stmt::Eval(_, payload) => evaluated_fault(alloc, modules, payload.get()),
@@ -133,13 +173,23 @@ fn statement_fault(alloc: Global, modules: &NameSet, loops: &NameSet, within: Wi
 
 #[cycle(statement)]
 #[tactic(auto, using(crate::proofs::StatementLaws::statement_rules))]
-fn block_fault(alloc: Global, modules: &NameSet, loops: &NameSet, within: Within, names: &mut NameSet, block: &[Stmt]) -> Result<Option<Fault>, NoMemory>
+fn block_fault(
+    alloc: Global,
+    modules: &NameSet,
+    loops: &NameSet,
+    within: Within,
+    names: &mut NameSet,
+    block: &[Stmt],
+) -> Result<Option<Fault>, NoMemory>
     ensures names { OnOk result (names.new ≡ names.old) }
     ensures found { IfOk result (λ found. found ≡ block_first modules.now loops.now within names.old block.now) }
 {
     let mut found = None;
     for s in block {
-        found = sooner(found, statement_fault(alloc, modules, loops, within, names, s)?);
+        found = sooner(
+            found,
+            statement_fault(alloc, modules, loops, within, names, s)?,
+        );
     }
     Ok(found)
 }
@@ -147,7 +197,11 @@ fn block_fault(alloc: Global, modules: &NameSet, loops: &NameSet, within: Within
 /// The fault that counts in what is evaluated, which is a text of its own.
 #[cycle(statement)]
 #[tactic(auto, using(crate::proofs::StatementLaws::statement_rules))]
-fn evaluated_fault(alloc: Global, modules: &NameSet, payload: &Payload) -> Result<Option<Fault>, NoMemory>
+fn evaluated_fault(
+    alloc: Global,
+    modules: &NameSet,
+    payload: &Payload,
+) -> Result<Option<Fault>, NoMemory>
     ensures { IfOk result (λ found. found ≡ evaluated_first modules.now payload.now) }
 {
     match payload {
@@ -177,7 +231,11 @@ fn head_fault(alloc: Global, modules: &NameSet, f: &Function) -> Result<Option<F
 /// The fault that counts in the definition of a method.
 #[cycle(statement)]
 #[tactic(auto, using(crate::proofs::StatementLaws::statement_rules))]
-pub fn method_fault(alloc: Global, modules: &NameSet, f: &Function) -> Result<Option<Fault>, NoMemory>
+pub fn method_fault(
+    alloc: Global,
+    modules: &NameSet,
+    f: &Function,
+) -> Result<Option<Fault>, NoMemory>
     ensures { IfOk result (λ found. found ≡ method_first modules.now f.now) }
 {
     let head = head_fault(alloc, modules, f)?;
@@ -187,7 +245,14 @@ pub fn method_fault(alloc: Global, modules: &NameSet, f: &Function) -> Result<Op
         in_body: true,
         in_loop: false,
     };
-    let inner = block_fault(alloc, modules, &unit.inner.names, within, &mut unit.names, f.block.as_slice())?;
+    let inner = block_fault(
+        alloc,
+        modules,
+        &unit.inner.names,
+        within,
+        &mut unit.names,
+        f.block.as_slice(),
+    )?;
     Ok(sooner(head, sooner(crowded, inner)))
 }
 
@@ -202,6 +267,13 @@ pub fn run_fault(alloc: Global, modules: &NameSet, s: &Stmt) -> Result<Option<Fa
         in_body: false,
         in_loop: false,
     };
-    let inner = statement_fault(alloc, modules, &unit.inner.names, within, &mut unit.names, s)?;
+    let inner = statement_fault(
+        alloc,
+        modules,
+        &unit.inner.names,
+        within,
+        &mut unit.names,
+        s,
+    )?;
     Ok(sooner(crowded, inner))
 }

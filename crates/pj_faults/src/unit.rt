@@ -16,7 +16,12 @@ pub struct Unit {
 }
 
 #[tactic(auto, using(crate::proofs::UnitLaws::param_rules))]
-fn put_param(alloc: Global, names: &mut NameSet, out: &mut Gathered, param: &Param) -> Result<(), NoMemory>
+fn put_param(
+    alloc: Global,
+    names: &mut NameSet,
+    out: &mut Gathered,
+    param: &Param,
+) -> Result<(), NoMemory>
     ensures names { OnOk result (names.new ≡ seen_after names.old (param.now ∷ [])) }
     ensures out { OnOk result (out.new ≡ gathered out.old (new_params names.old (param.now ∷ []))) }
 {
@@ -28,7 +33,12 @@ fn put_param(alloc: Global, names: &mut NameSet, out: &mut Gathered, param: &Par
 
 /// Adds the names of parameters, and gathers the tokens of the new ones. After an `Err` neither is of more use.
 #[tactic(auto, using(crate::proofs::UnitLaws::param_rules))]
-fn put_params(alloc: Global, names: &mut NameSet, out: &mut Gathered, params: &[Param]) -> Result<(), NoMemory>
+fn put_params(
+    alloc: Global,
+    names: &mut NameSet,
+    out: &mut Gathered,
+    params: &[Param],
+) -> Result<(), NoMemory>
     ensures names { OnOk result (names.new ≡ seen_after names.old params.now) }
     ensures out { OnOk result (out.new ≡ gathered out.old (new_params names.old params.now)) }
 {
