@@ -1,10 +1,9 @@
 -- The fault that counts of names that are bound, and of lists of parameters.
-use Rattle.std.proofs.Common.{◌≡◌, ℕ, Bool, true, false, not, List, [], ◌∷◌, ◌++◌, map, Option, Some, None, option_map, slice_get, refl, sym, ap, ◌∙◌, append_assoc}
+use Rattle.std.proofs.Common.{◌≡◌, true, List, [], ◌∷◌, ◌++◌, map, Option, Some, None, option_map, slice_get, refl, sym, ap, ◌∙◌, append_assoc}
 use Rattle.std.proofs.lemmas.List.{append-nil}
 use Rattle.std.proofs.lemmas.Option.{slice_get-map}
 use Rattle.pj_words.specs.Words.{is_special}
 use Rattle.pj_syntax.specs.declared.expression.Spot.{Spot}
-use Rattle.pj_syntax.specs.declared.expression.Path.{Path}
 use Rattle.pj_syntax.specs.declared.expression.Path.TheVariants as paths
 use Rattle.pj_syntax.specs.declared.statement.Param.{Param}
 use Rattle.pj_faults.specs.declared.fault.Fault.{Fault}
@@ -15,7 +14,7 @@ use Rattle.pj_faults.specs.Introduced.{is_among, with_name, with_names, named, o
 use Rattle.pj_faults.specs.Faults as f
 use Rattle.pj_faults.specs.Faults.{faulty, too_many, beyond, param_at}
 use Rattle.pj_faults.specs.Found.{bound_first, bound_path_first, params_bound, seen_after, params_repeated, many_params, list_first}
-use Rattle.pj_faults.proofs.FirstLaws.{first-none, first-append, first-one, none-sooner, sooner-none, sooner-assoc}
+use Rattle.pj_faults.proofs.FirstLaws.{first-none, first-append, first-one}
 use Rattle.pj_faults.proofs.NamesLaws.{with_names-none, with_names-one, with_names-append}
 use Rattle.pj_faults.proofs.ValueLaws.{first-faulty}
 

@@ -1,8 +1,8 @@
 -- The first of a list counts.
-use Rattle.std.proofs.Common.{◌≡◌, ℕ, ◌<◌, ◌≤◌, Bool, true, false, List, [], ◌∷◌, Option, Some, None, cond, refl, sym, ap, ◌∙◌, arith, ◌⊎◌, inl, inr, subst}
+use Rattle.std.proofs.Common.{◌≡◌, ℕ, ◌<◌, Bool, true, false, List, [], ◌∷◌, Option, Some, None, cond, refl, sym, arith, ◌⊎◌, inl, inr, subst}
 use Rattle.pj_faults.specs.declared.fault.Fault.{Fault}
 use Rattle.pj_faults.specs.First.{rank, before, sooner, first}
-use Rattle.pj_faults.specs.Counting.{IsOneOf, NoneBefore, Counts, FirstCounts, NoneIsEmpty}
+use Rattle.pj_faults.specs.Counting.{NoneBefore, Counts, FirstCounts, NoneIsEmpty}
 use Rattle.pj_faults.proofs.FirstLaws.{lex, lex_true, lex_more, lex_not, before-not}
 
 before-same : (f : Fault) → before f f ≡ false

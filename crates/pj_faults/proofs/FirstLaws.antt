@@ -2,8 +2,7 @@
 use Rattle.std.proofs.Common.{◌≡◌, ℕ, ◌<◌, Bool, true, false, ◌&&◌, ◌||◌, List, [], ◌∷◌, ◌++◌, Option, Some, None, cond, refl, sym, ap, ◌∙◌, arith, ◌≤◌, ◌⊎◌, inl, inr}
 use Rattle.std.specs.Prelude.{nat_lt, ◌==◌}
 use Rattle.pj_faults.specs.declared.fault.Fault.{Fault}
-use Rattle.pj_faults.specs.declared.fault.ScopeKind.{ScopeKind}
-use Rattle.pj_faults.specs.First.{rank, before, sooner, first, when}
+use Rattle.pj_faults.specs.First.{rank, before, sooner, first}
 
 pub sooner-none : (a : Option Fault) → sooner a None ≡ a
 unfolding sooner

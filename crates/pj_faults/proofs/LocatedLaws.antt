@@ -1,5 +1,5 @@
 -- The equations of the reading of trees, one for each variant.
-use Rattle.std.proofs.Common.{◌≡◌, ℕ, ℤ, List, map, Option, option_map, sym, ap, ◌∙◌}
+use Rattle.std.proofs.Common.{◌≡◌, ℕ, ℤ, List, Option, option_map, sym, ap, ◌∙◌}
 use Rattle.pj_faults.specs.Located as l
 use Rattle.pj_faults.specs.Located.{Text, Value, Statement, Method, Evaluated, Given, value_layer, argument_layer, value_of, given_of, arguments_of, block_of, statement_layer, method_layer, evaluated_layer, statement_of, evaluated_of, method_of}
 use Rattle.pj_syntax.specs.declared.expression.Spot.{Spot}

@@ -1,5 +1,5 @@
 -- Names that scopes introduce, one equation for each variant and one for one more statement.
-use Rattle.std.proofs.Common.{◌≡◌, ℕ, Bool, true, false, List, [], ◌∷◌, ◌++◌, map, length, take, Option, refl, sym, ap, ◌∙◌, append_assoc}
+use Rattle.std.proofs.Common.{◌≡◌, ℕ, List, [], ◌∷◌, ◌++◌, map, length, take, Option, refl, sym, ap, ◌∙◌, append_assoc}
 use Rattle.std.proofs.lemmas.List.{append-nil, map-append}
 use Rattle.pj_syntax.specs.declared.expression.Spot.{Spot}
 use Rattle.pj_syntax.specs.declared.expression.Expr.{Expr}
@@ -7,8 +7,8 @@ use Rattle.pj_syntax.specs.declared.statement.Stmt.{Stmt}
 use Rattle.pj_syntax.specs.declared.statement.Stmt.TheVariants as s
 use Rattle.pj_syntax.specs.declared.statement.Payload.{Payload}
 use Rattle.pj_faults.specs.declared.gather.Gathered.{Gathered}
-use Rattle.pj_faults.specs.Located.{Text, Statement, Block, step, block, statement_of, block_of}
-use Rattle.pj_faults.specs.Introduced.{is_among, with_name, with_names, new_names, assigned, assigned_by, looped, looped_by}
+use Rattle.pj_faults.specs.Located.{Text, Statement, block, statement_of, block_of}
+use Rattle.pj_faults.specs.Introduced.{with_name, with_names, new_names, assigned, assigned_by, looped, looped_by}
 use Rattle.pj_faults.specs.Faults.{at_of}
 use Rattle.pj_faults.specs.Found.{grown, grown_by, new_in, new_by, looped_in, looped_stmt, gathered}
 use Rattle.pj_faults.proofs.LocatedLaws as l

@@ -3,7 +3,6 @@ use Rattle.std.proofs.Common.{◌≡◌, ℕ, Bool, true, false, not, ◌||◌, 
 use Rattle.std.proofs.lemmas.List.{append-nil}
 use Rattle.pj_syntax.specs.declared.expression.Spot.{Spot}
 use Rattle.pj_syntax.specs.declared.expression.Expr.{Expr}
-use Rattle.pj_syntax.specs.declared.statement.Param.{Param}
 use Rattle.pj_syntax.specs.declared.statement.Stmt.{Stmt}
 use Rattle.pj_syntax.specs.declared.statement.Stmt.TheVariants as s
 use Rattle.pj_syntax.specs.declared.statement.Function.{Function}
@@ -13,13 +12,13 @@ use Rattle.pj_faults.specs.declared.fault.Fault.{Fault}
 use Rattle.pj_faults.specs.declared.fault.ScopeKind.TheVariants.{GlobalLocal, Outside}
 use Rattle.pj_faults.specs.declared.statement.Within.{Within}
 use Rattle.pj_faults.specs.First.{first, sooner, when}
-use Rattle.pj_faults.specs.Located.{Text, Statement, block, value_of, statement_of, block_of, evaluated_of, method_of}
+use Rattle.pj_faults.specs.Located.{Text, Statement, block, value_of, statement_of, block_of}
 use Rattle.pj_faults.specs.Introduced.{is_among, with_name, with_names, new_names, assigned, named, body_names, looped, looped_by}
 use Rattle.pj_faults.specs.Faults as f
 use Rattle.pj_faults.specs.Faults.{faulty, names_of}
 use Rattle.pj_faults.specs.Found.{bound_first, bound_path_first, list_first, params_bound, value_first, returned_first, shadowed_first, statement_first, block_first, evaluated_first, method_first, head_first, run_first, grown, crowded_first, body_unit, run_unit}
 use Rattle.pj_faults.proofs.LocatedLaws as l
-use Rattle.pj_faults.proofs.FirstLaws.{first-none, first-append, sooner-none, none-sooner, sooner-assoc}
+use Rattle.pj_faults.proofs.FirstLaws.{first-none, first-append, sooner-assoc}
 use Rattle.pj_faults.proofs.ValueLaws.{first-faulty}
 use Rattle.pj_faults.proofs.ScopeLaws.{cut_while, cut_for, statements-snoc}
 

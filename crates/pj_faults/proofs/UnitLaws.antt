@@ -1,14 +1,13 @@
 -- What the scopes of a body introduce, from its parts.
-use Rattle.std.proofs.Common.{◌≡◌, ℕ, Bool, List, [], ◌∷◌, ◌++◌, map, Option, Some, None, refl, sym, ap, ◌∙◌, append_assoc}
-use Rattle.std.proofs.lemmas.List.{append-nil, map-append}
+use Rattle.std.proofs.Common.{◌≡◌, List, [], ◌∷◌, ◌++◌, map, Some, None, refl, sym, ap, ◌∙◌}
+use Rattle.std.proofs.lemmas.List.{map-append}
 use Rattle.pj_syntax.specs.declared.expression.Spot.{Spot}
 use Rattle.pj_syntax.specs.declared.statement.Param.{Param}
 use Rattle.pj_syntax.specs.declared.statement.Stmt.{Stmt}
 use Rattle.pj_faults.specs.declared.gather.Gathered.{Gathered}
-use Rattle.pj_faults.specs.declared.unit.Unit.{Unit}
-use Rattle.pj_faults.specs.Located.{Text, block_of, statement_of}
-use Rattle.pj_faults.specs.Introduced.{with_name, with_names, new_names, named, own_name, assigned, looped, looped_by}
-use Rattle.pj_faults.specs.Faults.{at_of, names_of}
+use Rattle.pj_faults.specs.Located.{Text, block_of}
+use Rattle.pj_faults.specs.Introduced.{with_names, new_names, named, assigned, looped}
+use Rattle.pj_faults.specs.Faults.{at_of}
 use Rattle.pj_faults.specs.Found.{seen_after, new_params, gathered, grown, new_in, looped_in, looped_stmt, body_unit, run_unit}
 use Rattle.pj_faults.proofs.NamesLaws.{with_names-none, with_names-one, with_names-append, new_names-none, new_names-append}
 use Rattle.pj_faults.proofs.BoundLaws.{own, named-append, seen-none, seen-snoc, seen-Some, seen-None}

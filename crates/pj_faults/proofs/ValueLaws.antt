@@ -13,12 +13,12 @@ use Rattle.pj_faults.specs.declared.fault.ScopeKind.{ScopeKind}
 use Rattle.pj_faults.specs.declared.fault.ScopeKind.TheVariants.{Many, LoopName}
 use Rattle.pj_faults.specs.First.{first, sooner, when}
 use Rattle.pj_faults.specs.Introduced.{is_among}
-use Rattle.pj_faults.specs.Located.{Text, Value, Given, arguments, value_of, given_of, arguments_of}
+use Rattle.pj_faults.specs.Located.{Text, Given, arguments, value_of, given_of, arguments_of}
 use Rattle.pj_faults.specs.Faults as f
 use Rattle.pj_faults.specs.Faults.{faulty, too_many, beyond, places_of}
 use Rattle.pj_faults.specs.Found.{read_first, many_arguments, value_first, arguments_first}
 use Rattle.pj_faults.proofs.LocatedLaws as l
-use Rattle.pj_faults.proofs.FirstLaws.{first-none, first-append, first-one, none-sooner, sooner-none, sooner-assoc}
+use Rattle.pj_faults.proofs.FirstLaws.{first-none, first-append, first-one}
 
 pub first-faulty : (is_fault : Bool) (kind : ScopeKind) (place : ℕ) → first (faulty is_fault kind place) ≡ when is_fault kind place
 unfolding when

@@ -1,5 +1,5 @@
 -- What it means that a fault counts among some: it is one of them, and none of them is before it.
-use Rattle.std.specs.Prelude.{◌≡◌, false, List, [], ◌∷◌, Option, Some, None, ⊤}
+use Rattle.std.specs.Prelude.{◌≡◌, false, List, [], ◌∷◌, Some, None, ⊤}
 use Rattle.std.specs.Prelude.{◌⊎◌}
 use Rattle.pj_faults.specs.declared.fault.Fault.{Fault}
 use Rattle.pj_faults.specs.First.{before, first}

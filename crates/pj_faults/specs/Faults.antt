@@ -1,5 +1,5 @@
 -- The faults of names and scopes in a text, each with its place. A list of modules has the name of each module of the text.
-use Rattle.std.specs.Prelude.{ℕ, Bool, true, false, not, ◌&&◌, ◌||◌, List, [], ◌∷◌, ◌++◌, map, flat_map, slice_get, Option, Some, None, codes}
+use Rattle.std.specs.Prelude.{ℕ, Bool, true, false, not, ◌&&◌, ◌||◌, List, [], ◌∷◌, ◌++◌, map, slice_get, Option, Some, None, codes}
 use Rattle.std.specs.Str.{bytes_eq}
 use Rattle.pj_words.specs.Words.{is_special}
 use Rattle.pj_syntax.specs.declared.expression.Spot.{Spot}
@@ -104,7 +104,7 @@ names_of xs = with_names [] xs
 abbrev pub shadowed : List Text → List Text → ℕ → Spot → List Fault
 shadowed names loops at x = faulty (is_among x.text names || is_among x.text loops) GlobalLocal at
 
--- what may be returned from
+-- the faults of the value behind `return`, where one is written
 abbrev pub returned : Option Value → (Value → List Fault) → List Fault
 returned None faults = []
 returned (Some e) faults = faults e

@@ -1,5 +1,5 @@
 -- The fault that counts in each part of a text's trees.
-use Rattle.std.specs.Prelude.{ℕ, Bool, true, false, not, ◌&&◌, List, [], ◌∷◌, ◌++◌, map, Option, Some, None, option_map}
+use Rattle.std.specs.Prelude.{ℕ, List, [], ◌∷◌, ◌++◌, map, Option, option_map}
 use Rattle.pj_syntax.specs.declared.expression.Spot.{Spot}
 use Rattle.pj_syntax.specs.declared.expression.Path.{Path}
 use Rattle.pj_syntax.specs.declared.expression.Argument.{Argument}

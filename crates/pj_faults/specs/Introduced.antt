@@ -1,11 +1,11 @@
 -- Which names a scope introduces. The scopes of a method's body are the body and its loops; those of a statement at top level are
 -- its loops. The condition of a `while` and the bounds of a `for` stand outside the loop's scope.
-use Rattle.std.specs.Prelude.{ℕ, Bool, List, [], ◌∷◌, ◌++◌, Option, Some, None, if◌then◌else◌, map}
+use Rattle.std.specs.Prelude.{Bool, List, [], ◌∷◌, ◌++◌, Option, Some, None, if◌then◌else◌}
 use Rattle.std.specs.List.{list_any}
 use Rattle.std.specs.Str.{bytes_eq}
 use Rattle.pj_syntax.specs.declared.expression.Spot.{Spot}
 use Rattle.pj_syntax.specs.declared.statement.Param.{Param}
-use Rattle.pj_faults.specs.Located.{Text, Value, Statement, Block, Give, Set, SetField, Global, Return, Break, Continue, If, While, For, Eval, end, step}
+use Rattle.pj_faults.specs.Located.{Text, Statement, Block, Set, If, While, For, end, step}
 
 unfoldable pub is_among : Text → List Text → Bool
 is_among x names = list_any (bytes_eq x) names

@@ -1,5 +1,5 @@
 -- Worked rows: which fault counts in some small texts, with the places of tokens as numbers.
-use Rattle.std.specs.Prelude.{ℕ, ◌≡◌, Bool, true, false, List, [], ◌∷◌, ◌++◌, map, codes, replicate, Option, Some, None}
+use Rattle.std.specs.Prelude.{ℕ, ◌≡◌, List, [], ◌∷◌, ◌++◌, map, codes, replicate, Option, Some, None}
 use Prim.Native.String.{String}
 use Rattle.pj_syntax.specs.declared.expression.Spot.{Spot}
 use Rattle.pj_syntax.specs.declared.expression.Path.TheVariants.{Bare, Of}
@@ -8,8 +8,8 @@ use Rattle.pj_faults.specs.declared.fault.Fault.{Fault}
 use Rattle.pj_faults.specs.declared.fault.ScopeKind.{ScopeKind}
 use Rattle.pj_faults.specs.declared.fault.ScopeKind.TheVariants.{Many, ModuleName, Twice, LoopName, GlobalLocal, Outside, Reserved}
 use Rattle.pj_faults.specs.First.{first}
-use Rattle.pj_faults.specs.Located.{Text, Value, Arguments, Statement, Block, Method, Evaluated, True, Name, Call, Latest, none, also, Give, Set, SetField, Global, Return, Break, Continue, If, While, For, Eval, end, step, method, Define, Bind, Find}
-use Rattle.pj_faults.specs.Faults.{run_faults, method_faults, crowded, list_faults}
+use Rattle.pj_faults.specs.Located.{Text, Value, Arguments, Statement, Block, True, Name, Call, none, also, Give, Set, Global, Return, Break, Continue, If, While, For, Eval, end, step, method, Define, Bind, Find}
+use Rattle.pj_faults.specs.Faults.{run_faults, method_faults, crowded}
 
 -- ---- short forms
 

@@ -1,5 +1,7 @@
 //! Faults of statements and methods.
-ghost use Rattle.std.specs.Prelude.{◌≡◌, ◌||◌, true, false, [], IfOk, OnOk};
+ghost use Rattle.std.specs.Prelude.{◌≡◌, ◌||◌, not, true, [], IfOk, OnOk};
+ghost use Rattle.pj_faults.specs.declared.fault.ScopeKind.TheVariants.{Outside};
+ghost use Rattle.pj_faults.specs.First.{sooner, when};
 ghost use Rattle.pj_faults.specs.Introduced.{is_among, with_name};
 ghost use Rattle.pj_faults.specs.Found.{block_first, bound_first, evaluated_first, grown, head_first, method_first, returned_first, run_first, shadowed_first, statement_first, value_first};
 
@@ -49,23 +51,57 @@ fn returned_fault(names: &NameSet, loops: &NameSet, value: &Option<Expr>) -> Opt
     }
 }
 
+fn two_faults(names: &NameSet, loops: &NameSet, a: &Expr, b: &Expr) -> Option<Fault>
+    ensures { result ≡ sooner (value_first names.now loops.now a.now) (value_first names.now loops.now b.now) }
+{
+    sooner(value_fault(names, loops, a), value_fault(names, loops, b))
+}
+
+fn global_fault(
+    modules: &NameSet,
+    names: &NameSet,
+    loops: &NameSet,
+    place: usize,
+    x: &Spot,
+    e: &Expr,
+) -> Option<Fault>
+    ensures { result ≡ sooner (bound_first modules.now x.now) (sooner (shadowed_first names.now loops.now place x.now) (value_first names.now loops.now e.now)) }
+{
+    let shadowed = shadowed_fault(names, loops, place, x);
+    let inner = sooner(shadowed, value_fault(names, loops, e));
+    sooner(bound_fault(modules, x), inner)
+}
+
+fn return_fault(
+    names: &NameSet,
+    loops: &NameSet,
+    in_body: bool,
+    place: usize,
+    value: &Option<Expr>,
+) -> Option<Fault>
+    ensures { result ≡ sooner (when (not in_body) Outside place) (returned_first names.now loops.now value.now) }
+{
+    let outside = when(!in_body, ScopeKind::Outside, place);
+    sooner(outside, returned_fault(names, loops, value))
+}
+
 #[cycle(statement)]
 #[tactic(auto, using(crate::proofs::StatementLaws::statement_rules))]
 fn while_fault(
     alloc: Global,
     modules: &NameSet,
     loops: &NameSet,
-    in_body: bool,
+    within: Within,
     names: &mut NameSet,
     block: &[Stmt],
 ) -> Result<Option<Fault>, NoMemory>
     ensures names { OnOk result (names.new ≡ names.old) }
-    ensures found { IfOk result (λ found. found ≡ block_first modules.now loops.now (record { in_body = in_body; in_loop = true }) (grown names.old block.now) block.now) }
+    ensures found { IfOk result (λ found. found ≡ block_first modules.now loops.now (record { in_body = within.in_body; in_loop = true }) (grown names.old block.now) block.now) }
 {
     let count = names.len();
     enter_block(alloc, names, block)?;
     let within = Within {
-        in_body,
+        in_body: within.in_body,
         in_loop: true,
     };
     let inner = block_fault(alloc, modules, loops, within, names, block)?;
@@ -79,19 +115,19 @@ fn for_fault(
     alloc: Global,
     modules: &NameSet,
     loops: &NameSet,
-    in_body: bool,
+    within: Within,
     names: &mut NameSet,
     x: &Spot,
     block: &[Stmt],
 ) -> Result<Option<Fault>, NoMemory>
     ensures names { OnOk result (names.new ≡ names.old) }
-    ensures found { IfOk result (λ found. found ≡ block_first modules.now loops.now (record { in_body = in_body; in_loop = true }) (grown (with_name names.old x.now.text) block.now) block.now) }
+    ensures found { IfOk result (λ found. found ≡ block_first modules.now loops.now (record { in_body = within.in_body; in_loop = true }) (grown (with_name names.old x.now.text) block.now) block.now) }
 {
     let count = names.len();
     let _ = names.add(alloc, x.text.as_str())?;
     enter_block(alloc, names, block)?;
     let within = Within {
-        in_body,
+        in_body: within.in_body,
         in_loop: true,
     };
     let inner = block_fault(alloc, modules, loops, within, names, block)?;
@@ -117,18 +153,10 @@ fn statement_fault(
     match s {
         Stmt::Value(e) => Ok(value_fault(names, loops, e)),
         Stmt::Set(x, e) => Ok(sooner(bound_fault(modules, x), value_fault(names, loops, e))),
-        Stmt::SetField(of, _, e) => {
-            let of = value_fault(names, loops, of);
-            Ok(sooner(of, value_fault(names, loops, e)))
-        }
-        Stmt::Global(place, x, e) => {
-            let shadowed = shadowed_fault(names, loops, *place, x);
-            let inner = sooner(shadowed, value_fault(names, loops, e));
-            Ok(sooner(bound_fault(modules, x), inner))
-        }
+        Stmt::SetField(of, _, e) => Ok(two_faults(names, loops, of, e)),
+        Stmt::Global(place, x, e) => Ok(global_fault(modules, names, loops, *place, x, e)),
         Stmt::Return(place, value) => {
-            let outside = when(!within.in_body, ScopeKind::Outside, *place);
-            Ok(sooner(outside, returned_fault(names, loops, value)))
+            Ok(return_fault(names, loops, within.in_body, *place, value))
         }
         Stmt::Break(place) => Ok(when(!within.in_loop, ScopeKind::Outside, *place)),
         Stmt::Continue(place) => Ok(when(!within.in_loop, ScopeKind::Outside, *place)),
@@ -140,32 +168,15 @@ fn statement_fault(
         }
         Stmt::While(test, block) => {
             let test = value_fault(names, loops, test);
-            let inner = while_fault(
-                alloc,
-                modules,
-                loops,
-                within.in_body,
-                names,
-                block.as_slice(),
-            )?;
+            let block = block.as_slice();
+            let inner = while_fault(alloc, modules, loops, within, names, block)?;
             Ok(sooner(test, inner))
         }
         Stmt::For(x, first, last, block) => {
-            let bounds = sooner(
-                value_fault(names, loops, first),
-                value_fault(names, loops, last),
-            );
-            let head = sooner(bound_fault(modules, x), bounds);
-            let inner = for_fault(
-                alloc,
-                modules,
-                loops,
-                within.in_body,
-                names,
-                x,
-                block.as_slice(),
-            )?;
-            Ok(sooner(head, inner))
+            let bounds = two_faults(names, loops, first, last);
+            let block = block.as_slice();
+            let inner = for_fault(alloc, modules, loops, within, names, x, block)?;
+            Ok(sooner(sooner(bound_fault(modules, x), bounds), inner))
         }
         Stmt::Eval(_, payload) => evaluated_fault(alloc, modules, payload.get()),
     }
