@@ -1,0 +1,12 @@
+pub mod LocatedLaws
+pub mod FirstLaws
+pub mod NameLaws
+pub mod ValueLaws
+pub mod NamesLaws
+pub mod BoundLaws
+pub mod ScopeLaws
+pub mod SortLaws
+pub mod UnitLaws
+pub mod StatementLaws
+pub mod ItemLaws
+pub mod CountingLaws

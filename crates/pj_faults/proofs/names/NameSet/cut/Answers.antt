@@ -1,0 +1,6 @@
+use Rattle.std.proofs.Common.{string_bytes, map, sym, ap, ◌∙◌}
+use Rattle.std.proofs.lemmas.List.{take-map}
+use Rattle.pj_faults.proofs.names.NameSet.cut.Goals as goal
+
+pub returns : goal.returns
+returns c = rw (← c.self.view_is) (ap (map string_bytes) c.truncate.ensures.keys ∙ sym (take-map string_bytes c.args.count c.self.inside.texts.keys))
