@@ -2,5 +2,7 @@
 //! definition of the grammar's.
 #![tactic(auto)]
 
+pub mod copies;
+pub mod expressions;
 pub mod levels;
 pub mod tokens;
