@@ -301,7 +301,7 @@ pub fn argument_after(given: Arguments, e: Node) -> Result<Arguments, NoMemory>
 
 /// Whether a path names the function that calls another in the latest world.
 #[tactic(auto, unfolding(pj_grammar::specs::Makers::lacks, pj_grammar::specs::Makers::no_arguments))]
-fn is_latest(path: &Path) -> bool
+pub fn is_latest(path: &Path) -> bool
     ensures { result ≡ lacks path.now no_arguments }
 {
     match path {

@@ -2,7 +2,15 @@
 //! definition of the grammar's.
 #![tactic(auto)]
 
+pub mod assignments;
+pub mod bounds;
 pub mod copies;
+pub mod definitions;
 pub mod expressions;
+pub mod heads;
+pub mod items;
 pub mod levels;
+pub mod params;
+pub mod paths;
+pub mod statements;
 pub mod tokens;
