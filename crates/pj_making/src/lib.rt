@@ -10,6 +10,7 @@ pub mod expressions;
 pub mod heads;
 pub mod items;
 pub mod levels;
+pub mod modules;
 pub mod params;
 pub mod paths;
 pub mod statements;
