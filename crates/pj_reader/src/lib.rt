@@ -1,0 +1,5 @@
+//! Reads the tokens of a text into its tree, by the machine of the grammar.
+#![tactic(auto)]
+
+pub mod stack;
+pub mod reading;
