@@ -1,5 +1,6 @@
 //! Reads the tokens of a text into its tree, by the machine of the grammar.
 #![tactic(auto)]
 
-pub mod stack;
+pub mod depth;
 pub mod reading;
+pub mod stack;
