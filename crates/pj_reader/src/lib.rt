@@ -4,3 +4,4 @@
 pub mod depth;
 pub mod reading;
 pub mod stack;
+pub mod view;
