@@ -1,0 +1,121 @@
+//! What assignments make.
+ghost use Rattle.std.specs.Prelude.{◌≡◌, ◌+◌, ◌≤◌, IfOk, None, max};
+ghost use Rattle.pj_grammar.specs.Makers.{assign_of, target_value};
+ghost use Rattle.pj_grammar.specs.Need.{holder_nesting};
+ghost use Rattle.pj_making.specs.Bounds.{most_nesting};
+
+use crate::copies::{copy_expr, copy_spot};
+use crate::expressions::{field_of, infix_of, name_of};
+use pj_base::NoMemory;
+use pj_grammar::{Line, Node, Operator, Target};
+use pj_syntax::{Path, Spot, Stmt};
+use std::alloc::Global;
+
+/// A name as an expression, copied.
+fn name_copied(alloc: Global, name: &Spot) -> Result<Node, NoMemory>
+    ensures made { IfOk result (λ made. made ≡ target_value (Target.Local name.now)) }
+    ensures nests { IfOk result (λ made. made.nesting ≡ 1) }
+{
+    let name = copy_spot(alloc, name)?;
+    Ok(name_of(Path::Bare(name)))
+}
+
+/// An expression that was read, copied.
+fn node_copied(alloc: Global, e: &Node) -> Result<Node, NoMemory>
+    ensures { IfOk result (λ copied. copied ≡ e.now) }
+{
+    let tree = copy_expr(alloc, &e.tree)?;
+    Ok(Node {
+        tree,
+        nesting: e.nesting,
+        at: e.at,
+    })
+}
+
+/// A field as an expression, copied.
+fn field_copied(alloc: Global, e: &Node, field: &Spot) -> Result<Node, NoMemory>
+    requires { e.now.nesting ≤ most_nesting }
+    ensures made { IfOk result (λ made. made ≡ target_value (Target.Field e.now field.now)) }
+    ensures nests { IfOk result (λ made. made.nesting ≡ 1 + e.now.nesting) }
+{
+    let e = node_copied(alloc, e)?;
+    let field = copy_spot(alloc, field)?;
+    field_of(alloc, e, field)
+}
+
+/// What an assignment with an operator computes from: a copy of what it sets.
+pub fn target_value(alloc: Global, target: &Target) -> Result<Node, NoMemory>
+    requires { holder_nesting target.now ≤ most_nesting }
+    ensures made { IfOk result (λ made. made ≡ target_value target.now) }
+    ensures nests { IfOk result (λ made. made.nesting ≤ 1 + holder_nesting target.now) }
+{
+    match target {
+        Target::Local(name) => name_copied(alloc, name),
+        Target::Field(e, field) => field_copied(alloc, e, field),
+        Target::Global(_, name) => name_copied(alloc, name),
+    }
+}
+
+/// An assignment without an operator.
+#[tactic(auto, unfolding(pj_grammar::specs::Makers::assign_of))]
+fn set_of(target: Target, e: Node) -> Line
+    requires holder { holder_nesting target ≤ most_nesting }
+    requires value { e.nesting ≤ 3 + most_nesting }
+    ensures made { result ≡ assign_of target None e }
+    ensures nests { result.nesting ≡ 1 + max (holder_nesting target) e.nesting }
+{
+    let Node {
+        tree: value,
+        nesting: below,
+        at: _,
+    } = e;
+    match target {
+        Target::Local(name) => Line {
+            tree: Stmt::Set(name, value),
+            nesting: 1 + below,
+        },
+        Target::Field(holder, field) => Line {
+            nesting: 1 + holder.nesting.max(below),
+            tree: Stmt::SetField(holder.tree, field, value),
+        },
+        Target::Global(at, name) => Line {
+            tree: Stmt::Global(at, name, value),
+            nesting: 1 + below,
+        },
+    }
+}
+
+/// What an assignment sets its target to: a value, or with an operator what it computes from the target and the value.
+#[tactic(auto, unfolding(pj_grammar::specs::Makers::assign_of))]
+fn assigned(
+    alloc: Global,
+    target: &Target,
+    operator: Option<Operator>,
+    e: Node,
+) -> Result<Node, NoMemory>
+    requires holder { 1 + holder_nesting target.now ≤ most_nesting }
+    requires value { e.nesting ≤ most_nesting }
+    ensures made { IfOk result (λ made. assign_of target.now None made ≡ assign_of target.now operator e) }
+    ensures nests { IfOk result (λ made. made.nesting ≤ 3 + max (holder_nesting target.now) e.nesting) }
+{
+    match operator {
+        None => Ok(e),
+        Some(operator) => infix_of(alloc, target_value(alloc, target)?, operator, e),
+    }
+}
+
+/// An assignment, with or without an operator.
+pub fn assign_of(
+    alloc: Global,
+    target: Target,
+    operator: Option<Operator>,
+    e: Node,
+) -> Result<Line, NoMemory>
+    requires holder { 1 + holder_nesting target ≤ most_nesting }
+    requires value { e.nesting ≤ most_nesting }
+    ensures made { IfOk result (λ made. made ≡ assign_of target operator e) }
+    ensures nests { IfOk result (λ made. made.nesting ≤ 4 + max (holder_nesting target) e.nesting) }
+{
+    let value = assigned(alloc, &target, operator, e)?;
+    Ok(set_of(target, value))
+}

@@ -1,0 +1,17 @@
+//! What the reader of texts makes: trees from the forms of the grammar, and small tests of tokens. Each function computes one
+//! definition of the grammar's.
+#![tactic(auto)]
+
+pub mod assignments;
+pub mod bounds;
+pub mod copies;
+pub mod definitions;
+pub mod expressions;
+pub mod heads;
+pub mod items;
+pub mod levels;
+pub mod modules;
+pub mod params;
+pub mod paths;
+pub mod statements;
+pub mod tokens;

@@ -1,0 +1,7 @@
+//! Reads the tokens of a text into its tree, by the machine of the grammar.
+#![tactic(auto)]
+
+pub mod depth;
+pub mod reading;
+pub mod stack;
+pub mod view;
