@@ -6,6 +6,7 @@ pub mod Begun
 pub mod Blocking
 pub mod Blocks
 pub mod Calling
+pub mod Closed
 pub mod Computing
 pub mod Concluding
 pub mod Determined

@@ -1,6 +1,7 @@
 -- What holds of the grammar and its machine.
-use Rattle.std.specs.Prelude.{◌≡◌, ℕ, ◌≤◌, max, suc, true, List, ◌∷◌, ◌++◌, Option, Some, None, codes, take}
+use Rattle.std.specs.Prelude.{◌≡◌, ℕ, ◌≤◌, max, suc, true, List, [], ◌∷◌, ◌++◌, Option, Some, None, codes, take}
 use Rattle.pj_lex.specs.declared.token.Token.{Token}
+use Rattle.pj_lex.specs.declared.token.TokenKind.TheVariants as kinds
 use Rattle.pj_grammar.specs.declared.mode.Parsed.{Parsed}
 use Rattle.pj_grammar.specs.declared.level.Level.{Level}
 use Rattle.pj_grammar.specs.declared.node.Node.{Node}
@@ -136,3 +137,8 @@ DeepFaults = (modules : Modules) (kind : Kind) (limit i : ℕ) (tokens : List To
     → reached (with_base modules) kind (take i tokens) ≡ Some s → need s ≤ limit → 8 ≤ limit
     → reached (with_base modules) kind (take (suc i) tokens) ≡ Some t → suc limit ≤ need t
     → IsDeepFault (with_base modules) kind limit tokens i
+
+-- Where the machine has an answer behind the text's end, it has accepted: so a list of tokens that ends so and has no fault is a text.
+abbrev pub EndsAccepted : Type 0
+EndsAccepted = (modules : Modules) (kind : Kind) (tokens : List Token) (t : Token) (s : State) → t.what ≡ kinds.Eof
+    → reached (with_base modules) kind (tokens ++ t ∷ []) ≡ Some s → (read : Parsed × ℕ) × (accepted (Some s) ≡ Some read)

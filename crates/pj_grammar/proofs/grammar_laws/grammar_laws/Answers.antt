@@ -1,5 +1,6 @@
 use Rattle.std.specs.Prelude.{refl}
 use Rattle.pj_grammar.specs.Theorems.{Complete, NeedIsNesting}
+use Rattle.pj_grammar.proofs.Closed.{ends-accepted}
 use Rattle.pj_grammar.proofs.Determined.{none-begins, one-tree}
 use Rattle.pj_grammar.proofs.Expressions.{reads}
 use Rattle.pj_grammar.proofs.Faulting.{deep-faults, grammar-faults, not-within}
@@ -57,3 +58,6 @@ returns-clause-grammar_faults c = grammar-faults each-text (completion sound)
 
 pub returns-clause-deep_faults : goal.returns-clause-deep_faults
 returns-clause-deep_faults c = deep-faults each-text (completion sound) monotone nests
+
+pub returns-clause-ends_accepted : goal.returns-clause-ends_accepted
+returns-clause-ends_accepted c = ends-accepted
