@@ -2,7 +2,6 @@
 -- has accepted, the frames are those of a text. `Done s` says that, where there is a state, it has accepted.
 use Rattle.std.proofs.Common.{◌≡◌, ℕ, Bool, true, false, List, [], ◌∷◌, ◌++◌, if◌then◌else◌, Option, Some, None, refl, subst, sym, ap, ◌∙◌}
 use Rattle.pj_lex.specs.declared.token.Token.{Token}
-use Rattle.pj_lex.specs.declared.token.TokenKind.{TokenKind}
 use Rattle.pj_lex.specs.declared.token.TokenKind.TheVariants as kinds
 use Rattle.pj_syntax.specs.declared.expression.Spot.{Spot}
 use Rattle.pj_syntax.specs.declared.expression.Path.{Path}
@@ -22,12 +21,11 @@ use Rattle.pj_grammar.specs.declared.mode.Mode.{Mode}
 use Rattle.pj_grammar.specs.declared.mode.Mode.TheVariants as modes
 use Rattle.pj_grammar.specs.declared.mode.Parsed.{Parsed}
 use Rattle.pj_grammar.specs.Closing.{accept_script, after_end, after_end_at, closed_entry, closed_line, closed_method, closed_set, closed_value}
-use Rattle.pj_grammar.specs.Frames.{Settled, State, give, head_path, is_value, node, settle, takes_items}
-use Rattle.pj_grammar.specs.Machine.{accepted, accepted_at, after_return, after_use, directive_end, end_uses, eval_name_then, field_name, header, line, package_end, payload, read_frames, run, short_assign, start, step, step_at}
+use Rattle.pj_grammar.specs.Frames.{Settled, State, head_path, is_value, node, settle, takes_items}
+use Rattle.pj_grammar.specs.Machine.{accepted_at, directive_end, end_uses, field_name, read_frames, run, short_assign, start, step, step_at}
 use Rattle.pj_grammar.specs.Makers.{bare_return, const_of, return_of, short_method, using_of}
 use Rattle.pj_grammar.specs.Modules.{Modules}
-use Rattle.pj_grammar.specs.Operands.{add_name, add_param, after_function, after_header, after_path, after_purpose, after_type, finish, finish_at, have, have_first, have_other, have_path, have_value}
-use Rattle.pj_grammar.specs.Texts.{Kind}
+use Rattle.pj_grammar.specs.Operands.{add_name, add_param, after_function, after_header, after_purpose, after_type, finish, finish_at, have_first, have_other, have_path, have_value}
 use Rattle.pj_grammar.specs.Theorems.{EndsAccepted, reached, with_base}
 use Rattle.pj_grammar.specs.Tokens.{Place, place}
 use Rattle.pj_grammar.specs.declared.level.Level.TheVariants as levels
