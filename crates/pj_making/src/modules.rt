@@ -52,6 +52,13 @@ impl ModuleNames {
         Ok(ModuleNames { listed, known })
     }
 
+    /// The names as a list, one as often as it was added.
+    pub fn listed(&self) -> &[Text]
+        ensures { result.now ≡ self.now }
+    {
+        self.listed.as_slice()
+    }
+
     /// Whether a name is a module's.
     pub fn is_module(&self, name: &str) -> bool
         ensures { result ≡ is_module self.now name.now }

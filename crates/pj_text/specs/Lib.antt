@@ -1,0 +1,3 @@
+pub mod Laws
+pub mod Scoped
+pub mod Texts
