@@ -65,6 +65,15 @@ impl Method {
     }
 }
 
+impl Evaluated {
+    /// How deep it nests.
+    pub fn nesting(&self) -> usize
+        ensures { result ≡ self.now.nesting }
+    {
+        self.nesting
+    }
+}
+
 /// The definition of a method with a block.
 #[tactic(auto, unfolding(pj_grammar::specs::Makers::method_of))]
 pub fn method_of(path: Path, params: ParamList, body: Lines) -> Method
