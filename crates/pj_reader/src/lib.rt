@@ -2,6 +2,9 @@
 #![tactic(auto)]
 
 pub mod depth;
+pub mod need;
+pub mod place;
 pub mod reading;
+pub mod settling;
 pub mod stack;
 pub mod view;

@@ -1,12 +1,13 @@
 //! Looks at the frames on top.
 ghost use Rattle.std.specs.Prelude.{◌≡◌};
-ghost use Rattle.pj_grammar.specs.Frames.{frame_level, purpose_level, takes_definition, takes_directives, takes_items, takes_lines, takes_short, takes_uses, wants};
+ghost use Rattle.pj_grammar.specs.Frames.{admits, frame_level, purpose_level, takes_definition, takes_directives, takes_items, takes_lines, takes_short, takes_uses, wants};
 ghost use Rattle.pj_grammar.specs.Machine.{takes_module};
 ghost use Rattle.pj_reader.specs.Stacked.{frames_of};
+ghost use Rattle.pj_reader.specs.Tops.{ends_top, on_branch, on_payload};
 
 use crate::stack::{Layer, split_top};
 use pj_grammar::{Frame, Level, Purpose, Root};
-use pj_making::levels::right_of;
+use pj_making::levels::{fits, right_of};
 
 /// The level at which the expression of a purpose is read.
 fn purpose_level(purpose: &Purpose) -> Level
@@ -129,6 +130,48 @@ pub fn takes_module(layers: &[Layer]) -> bool
 {
     match split_top(layers) {
         Some((Frame::Payload(None, false), _)) => true,
+        Some((_, _)) => false,
+        None => false,
+    }
+}
+
+/// Whether what is read at a level may stand as the operand of the top frame.
+pub fn admits(layers: &[Layer], level: Level) -> bool
+    ensures { result ≡ admits (frames_of layers.now) level }
+{
+    fits(wants(layers), level)
+}
+
+/// Whether what `@eval` evaluates stands on top.
+pub fn on_payload(layers: &[Layer]) -> bool
+    ensures { result ≡ on_payload (frames_of layers.now) }
+{
+    match split_top(layers) {
+        Some((Frame::Payload(_, _), _)) => true,
+        Some((_, _)) => false,
+        None => false,
+    }
+}
+
+/// Whether a branch before `elseif` stands on top.
+pub fn on_branch(layers: &[Layer]) -> bool
+    ensures { result ≡ on_branch (frames_of layers.now) }
+{
+    match split_top(layers) {
+        Some((Frame::Branch(_, _), _)) => true,
+        Some((_, _)) => false,
+        None => false,
+    }
+}
+
+/// Whether the operator on top ends, where what follows is read at a level.
+pub fn ends_top(level: Level, layers: &[Layer]) -> bool
+    ensures { result ≡ ends_top level (frames_of layers.now) }
+{
+    match split_top(layers) {
+        Some((Frame::Prefix(_), _)) => true,
+        Some((Frame::Infix(found, _, _), _)) => fits(level, *found),
+        Some((Frame::Else(_, _), _)) => fits(level, Level::Conditional),
         Some((_, _)) => false,
         None => false,
     }
