@@ -1,2 +1,4 @@
 pub mod Resolved
 pub mod Made
+pub mod Told
+pub mod Rows

@@ -5,6 +5,9 @@ use Rattle.pj_syntax.specs.declared.expression.Expr.{Expr as Syntax}
 use Rattle.pj_syntax.specs.declared.statement.Stmt.{Stmt as Line}
 use Rattle.pj_syntax.specs.declared.statement.Function.{Function}
 use Rattle.pj_syntax.specs.declared.statement.Payload.{Payload as Evaluated}
+use Rattle.pj_tree.specs.declared.tree.Sym.{Sym}
+use Rattle.pj_tree.specs.declared.tree.Part.TheVariants as part
+use Rattle.pj_tree.specs.declared.tree.TreeNode.TheVariants as node
 use Rattle.pj_tree.specs.declared.tree.Expr.{Expr}
 use Rattle.pj_tree.specs.declared.tree.Stmt.{Stmt}
 use Rattle.pj_tree.specs.declared.tree.Payload.{Payload}
@@ -32,3 +35,12 @@ evaluated_tree p = r.evaluated (evaluated_of p)
 
 unfoldable pub method_tree : Function → DefTree
 method_tree f = r.defined (method_of f)
+
+-- a definition, from what its body's scope introduces and its statements
+abbrev pub defined_with : Function → List Sym → List Stmt → DefTree
+defined_with f introduced block = record {
+  «module» = r.home_of f.path;
+  fun = r.own_of f.path;
+  params = r.params_of f.params;
+  body = part.Held (node.Body (record { params = r.names_of f.params; introduced = introduced; block = block }));
+}

@@ -17,7 +17,7 @@ use Rattle.pj_grammar.proofs.Determined.{one-tree}
 use Rattle.pj_grammar.proofs.Whole.{whole}
 use Rattle.pj_text.specs.Laws.{NeverBoth, OneFault, OneSyntax}
 use Rattle.pj_text.specs.Scoped.{scope_fault}
-use Rattle.pj_text.specs.Texts.{IsFault, IsSyntax, Stands, most_nesting, no_utf8, no_token, no_text, too_deep, out_of_scope}
+use Rattle.pj_text.specs.Texts.{IsFault, IsSyntax, Stands, deep_kind, most_nesting, no_utf8, no_token, no_text, too_deep, out_of_scope}
 use Rattle.pj_text.proofs.Fronts.{deep-stop, grammar-stop, never-both, no-stop, one-stop}
 
 each-text : Complete
@@ -48,7 +48,7 @@ one-syntax kind own bytes a b p q =
 -- What is wrong with a text that has these tokens.
 data Late (kind : Kind) (own : List ℕ) (ts : List Token) : ℕ → SyntaxKind → Type 0 where
   ends_early : {place : ℕ} (i : ℕ) → IsGrammarFault (modules_of own ts) kind most_nesting ts i → Stands ts i place → Late kind own ts place faults.Grammar
-  nests_deep : {place : ℕ} (i : ℕ) → IsDeepFault (modules_of own ts) kind most_nesting ts i → Stands ts i place → Late kind own ts place faults.Deep
+  nests_deep : {place : ℕ} (i : ℕ) → IsDeepFault (modules_of own ts) kind most_nesting ts i → (s : Stands ts i place) → Late kind own ts place (deep_kind s.0.what)
   breaks : {place : ℕ} {what : SyntaxKind} (nesting : ℕ) (syntax : Parsed) → IsText (modules_of own ts) kind ts syntax nesting → nesting ≤ most_nesting
       → scope_fault own (modules_of own ts) syntax ≡ Some (place, what) → Late kind own ts place what
 
@@ -61,6 +61,9 @@ one-token h = cc
 stands-once : (ts : List Token) (i j : ℕ) {p q : ℕ} → i ≡ j → Stands ts i p → Stands ts j q → p ≡ q
 stands-once ts i j same (t, is, at) (u, found, there) =
     sym at ∙ ap (λ x. x.start) (one-token (sym is ∙ ap (slice_get ts) same ∙ found)) ∙ there
+
+deep-once : (ts : List Token) (i j : ℕ) {p q : ℕ} → i ≡ j → (s : Stands ts i p) (u : Stands ts j q) → deep_kind s.0.what ≡ deep_kind u.0.what
+deep-once ts i j same (t, is, at) (u, found, there) = ap (λ x. deep_kind x.what) (one-token (sym is ∙ ap (slice_get ts) same ∙ found))
 
 abbrev pair : ℕ → SyntaxKind → ℕ × SyntaxKind
 pair p a = (p, a)
@@ -77,7 +80,7 @@ one-late ts (ends_early i f s) (ends_early j g u) = (stands-once ts i j (one-sto
 one-late ts (ends_early i f s) (nests_deep j g u) = absurd (never-both ts i j f g)
 one-late ts (ends_early i f s) (breaks n x is low h) = absurd (no-stop ts i is low (grammar-stop ts i f))
 one-late ts (nests_deep i f s) (ends_early j g u) = absurd (never-both ts j i g f)
-one-late ts (nests_deep i f s) (nests_deep j g u) = (stands-once ts i j (one-stop ts i j (deep-stop ts i f) (deep-stop ts j g)) s u, refl)
+one-late ts (nests_deep i f s) (nests_deep j g u) = let same = one-stop ts i j (deep-stop ts i f) (deep-stop ts j g) in (stands-once ts i j same s u, deep-once ts i j same s u)
 one-late ts (nests_deep i f s) (breaks n x is low h) = absurd (no-stop ts i is low (deep-stop ts i f))
 one-late ts (breaks n x is low h) (ends_early j g u) = absurd (no-stop ts j is low (grammar-stop ts j g))
 one-late ts (breaks n x is low h) (nests_deep j g u) = absurd (no-stop ts j is low (deep-stop ts j g))

@@ -4,6 +4,8 @@ use Rattle.std.specs.Str.{IsUtf8, IsValidUpTo, chars}
 use Rattle.pj_lex.specs.declared.fault.SyntaxKind.{SyntaxKind}
 use Rattle.pj_lex.specs.declared.fault.SyntaxKind.TheVariants as faults
 use Rattle.pj_lex.specs.declared.token.Token.{Token}
+use Rattle.pj_lex.specs.declared.token.TokenKind.{TokenKind}
+use Rattle.pj_lex.specs.declared.token.TokenKind.TheVariants as kinds
 use Rattle.pj_lex.specs.Before.{start}
 use Rattle.pj_lex.specs.Lexed.{Faulty, IsTokens}
 use Rattle.pj_grammar.specs.declared.mode.Parsed.{Parsed}
@@ -28,6 +30,12 @@ most_nesting = 128
 abbrev pub Stands : List Token → ℕ → ℕ → Type 0
 Stands tokens i place = (t : Token) × (slice_get tokens i ≡ Some t) × (t.start ≡ place)
 
+-- Only texts that nest too deep begin with the tokens up to and with this one. Where that is the text's end, the text has ended too
+-- early: with more tokens it needn't nest too deep.
+abbrev pub deep_kind : TokenKind → SyntaxKind
+deep_kind kinds.Eof = faults.Grammar
+deep_kind kind = faults.Deep
+
 -- The text is of the grammar, and this is what it says, before scopes are asked. Its own name is that of its module.
 pub record IsSyntax (kind : Kind) (own bytes : List ℕ) (syntax : Parsed) : Type 0 where
   pub tokens : List Token
@@ -46,7 +54,7 @@ pub data IsFault (kind : Kind) (own bytes : List ℕ) : ℕ → SyntaxKind → T
   no_text : {place : ℕ} (i : ℕ) (tokens : List Token) → IsTokens bytes tokens → IsGrammarFault (modules_of own tokens) kind most_nesting tokens i
       → Stands tokens i place → IsFault kind own bytes place faults.Grammar
   too_deep : {place : ℕ} (i : ℕ) (tokens : List Token) → IsTokens bytes tokens → IsDeepFault (modules_of own tokens) kind most_nesting tokens i
-      → Stands tokens i place → IsFault kind own bytes place faults.Deep
+      → (s : Stands tokens i place) → IsFault kind own bytes place (deep_kind s.0.what)
   out_of_scope : {place : ℕ} {what : SyntaxKind} (nesting : ℕ) (tokens : List Token) (syntax : Parsed) → IsTokens bytes tokens
       → IsText (modules_of own tokens) kind tokens syntax nesting → nesting ≤ most_nesting
       → scope_fault own (modules_of own tokens) syntax ≡ Some (place, what) → IsFault kind own bytes place what

@@ -1,0 +1,7 @@
+use Rattle.std.proofs.Common.{arith}
+use Rattle.std.proofs.lemmas.Grind.{common_steps}
+use Rattle.pj_scopes.proofs.Introducing.{params_seen}
+use Rattle.pj_scopes.proofs.introduce.enter_params.Goals as goal
+
+pub loop-param-preserved : goal.loop-param-preserved
+loop-param-preserved c = grind (arith, common_steps, params_seen)
