@@ -144,4 +144,3 @@ pub fn only_of(mut paths: PathList) -> Option<Path>
     let path = paths.pop()?;
     if paths.is_empty() { Some(path) } else { None }
 }
-

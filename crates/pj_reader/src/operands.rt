@@ -65,4 +65,3 @@ pub fn ask(alloc: Global, settled: Operand) -> Answer
     let condition = node(alloc, head)?;
     guarded_over(holds, Mode::Want, Frame::Then(condition), stack)
 }
-

@@ -13,7 +13,12 @@ use std::alloc::Global;
 
 /// Adds a name, also to the list where it is new. After an `Err` neither is of more use.
 #[tactic(auto, using(crate::proofs::Introducing::introduced))]
-fn introduce_name(alloc: Global, names: &mut NameSet, out: &mut SymList, x: &Spot) -> Result<(), NoMemory>
+fn introduce_name(
+    alloc: Global,
+    names: &mut NameSet,
+    out: &mut SymList,
+    x: &Spot,
+) -> Result<(), NoMemory>
     ensures names { OnOk result (names.new ≡ with_name names.old x.now.text) }
     ensures out { OnOk result (out.new ≡ out.old ++ words (new_names names.old (x.now ∷ []))) }
 {
@@ -26,7 +31,12 @@ fn introduce_name(alloc: Global, names: &mut NameSet, out: &mut SymList, x: &Spo
 
 #[cycle(introduce)]
 #[tactic(auto, using(crate::proofs::Introducing::introduced))]
-fn introduce_stmt(alloc: Global, names: &mut NameSet, out: &mut SymList, s: &Stmt) -> Result<(), NoMemory>
+fn introduce_stmt(
+    alloc: Global,
+    names: &mut NameSet,
+    out: &mut SymList,
+    s: &Stmt,
+) -> Result<(), NoMemory>
     ensures names { OnOk result (names.new ≡ grown_by names.old s.now) }
     ensures out { OnOk result (out.new ≡ out.old ++ words (new_by names.old s.now)) }
 {
@@ -46,7 +56,12 @@ fn introduce_stmt(alloc: Global, names: &mut NameSet, out: &mut SymList, s: &Stm
 /// more use.
 #[cycle(introduce)]
 #[tactic(auto, using(crate::proofs::Introducing::introduced))]
-pub fn introduce(alloc: Global, names: &mut NameSet, out: &mut SymList, block: &[Stmt]) -> Result<(), NoMemory>
+pub fn introduce(
+    alloc: Global,
+    names: &mut NameSet,
+    out: &mut SymList,
+    block: &[Stmt],
+) -> Result<(), NoMemory>
     ensures names { OnOk result (names.new ≡ grown names.old block.now) }
     ensures out { OnOk result (out.new ≡ out.old ++ words (new_in names.old block.now)) }
 {

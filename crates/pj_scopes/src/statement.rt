@@ -32,7 +32,13 @@ fn set_tree(alloc: Global, top: bool, x: &Spot, value: Expr) -> Result<Tree, NoM
 }
 
 /// A store to a field.
-fn field_tree(alloc: Global, names: &NameSet, of: &Value, x: &Spot, e: &Value) -> Result<Tree, NoMemory>
+fn field_tree(
+    alloc: Global,
+    names: &NameSet,
+    of: &Value,
+    x: &Spot,
+    e: &Value,
+) -> Result<Tree, NoMemory>
     ensures { IfOk result (λ t. t ≡ trees.SetField (value_tree names.now of.now) (word x.now) (value_tree names.now e.now)) }
 {
     let of = value(alloc, names, of)?;
@@ -51,7 +57,13 @@ fn global_tree(alloc: Global, names: &NameSet, x: &Spot, e: &Value) -> Result<Tr
 }
 
 /// A condition over its branches.
-fn if_tree(alloc: Global, names: &NameSet, test: &Value, chosen: Block, other: Block) -> Result<Tree, NoMemory>
+fn if_tree(
+    alloc: Global,
+    names: &NameSet,
+    test: &Value,
+    chosen: Block,
+    other: Block,
+) -> Result<Tree, NoMemory>
     ensures { IfOk result (λ t. t ≡ trees.If (value_tree names.now test.now) chosen other) }
 {
     let test = value(alloc, names, test)?;
@@ -59,7 +71,13 @@ fn if_tree(alloc: Global, names: &NameSet, test: &Value, chosen: Block, other: B
 }
 
 /// A loop with a condition, which stands outside the loop's scope.
-fn while_tree(alloc: Global, names: &NameSet, test: &Value, introduced: SymList, block: Block) -> Result<Tree, NoMemory>
+fn while_tree(
+    alloc: Global,
+    names: &NameSet,
+    test: &Value,
+    introduced: SymList,
+    block: Block,
+) -> Result<Tree, NoMemory>
     ensures { IfOk result (λ t. t ≡ trees.While introduced (value_tree names.now test.now) block) }
 {
     let test = value(alloc, names, test)?;
@@ -85,7 +103,12 @@ fn for_tree(
 }
 
 /// A body, and the definition that holds it.
-fn definition(alloc: Global, f: &Function, introduced: SymList, block: Block) -> Result<DefTree, NoMemory>
+fn definition(
+    alloc: Global,
+    f: &Function,
+    introduced: SymList,
+    block: Block,
+) -> Result<DefTree, NoMemory>
     ensures { IfOk result (λ d. d ≡ defined_with f.now introduced block) }
 {
     let params = param_names(alloc, f.params.as_slice())?;
@@ -110,7 +133,12 @@ fn definition(alloc: Global, f: &Function, introduced: SymList, block: Block) ->
 /// `Err` none of these is of more use.
 #[cycle(statement)]
 #[tactic(auto, using(crate::proofs::StatementTrees::statement_trees))]
-fn scope_block(alloc: Global, names: &mut NameSet, introduced: &mut SymList, block: &[Stmt]) -> Result<Block, NoMemory>
+fn scope_block(
+    alloc: Global,
+    names: &mut NameSet,
+    introduced: &mut SymList,
+    block: &[Stmt],
+) -> Result<Block, NoMemory>
     ensures names { OnOk result (names.new ≡ grown names.old block.now) }
     ensures introduced { OnOk result (introduced.new ≡ introduced.old ++ words (new_in names.old block.now)) }
     ensures block { IfOk result (λ b. b ≡ block_tree false (grown names.old block.now) block.now) }
@@ -137,7 +165,12 @@ fn scoped(alloc: Global, names: &mut NameSet, block: &[Stmt]) -> Result<(SymList
 /// What the scope of a loop with a variable introduces beside it, and its block. The names are as before.
 #[cycle(statement)]
 #[tactic(auto, using(crate::proofs::StatementTrees::statement_trees))]
-fn loop_scoped(alloc: Global, names: &mut NameSet, x: &Spot, block: &[Stmt]) -> Result<(SymList, Block), NoMemory>
+fn loop_scoped(
+    alloc: Global,
+    names: &mut NameSet,
+    x: &Spot,
+    block: &[Stmt],
+) -> Result<(SymList, Block), NoMemory>
     ensures names { OnOk result (names.new ≡ names.old) }
     ensures introduced { IfOk result (λ p. p.0 ≡ words (new_in (with_name names.old x.now.text) block.now)) }
     ensures block { IfOk result (λ p. p.1 ≡ block_tree false (grown (with_name names.old x.now.text) block.now) block.now) }
@@ -196,7 +229,12 @@ pub fn statement(alloc: Global, top: bool, names: &mut NameSet, s: &Stmt) -> Res
 
 #[cycle(statement)]
 #[tactic(auto, using(crate::proofs::StatementTrees::statement_trees))]
-fn block_of(alloc: Global, top: bool, names: &mut NameSet, block: &[Stmt]) -> Result<Block, NoMemory>
+fn block_of(
+    alloc: Global,
+    top: bool,
+    names: &mut NameSet,
+    block: &[Stmt],
+) -> Result<Block, NoMemory>
     ensures names { OnOk result (names.new ≡ names.old) }
     ensures block { IfOk result (λ b. b ≡ block_tree top names.old block.now) }
 {

@@ -29,7 +29,12 @@ pub fn script_tree(alloc: Global, modules: &[Text], text: &Script) -> Result<Scr
 /// The tree of a package, exactly where it has no fault of names and scopes; else the fault that counts. `modules` are the names of
 /// its modules: `Base`, its own and each name behind `using`. `asked` is the name that is asked for.
 #[tactic(auto, using(crate::proofs::Telling::telling))]
-pub fn package_tree(alloc: Global, modules: &[Text], asked: &str, text: &Package) -> Result<PackageTree, ScopeFault>
+pub fn package_tree(
+    alloc: Global,
+    modules: &[Text],
+    asked: &str,
+    text: &Package,
+) -> Result<PackageTree, ScopeFault>
     ensures tree { IfOk result (λ t. t ≡ package_tree text.now) }
     ensures faultless { IfOk result (λ _. faults_of_package modules.now asked.now text.now ≡ []) }
     ensures fault { IfFault result (λ f. Counts f (faults_of_package modules.now asked.now text.now)) }

@@ -23,15 +23,17 @@ fn read_tree(alloc: Global, names: &NameSet, path: &Path) -> Result<Tree, NoMemo
             }
             Ok(Tree::Global(no_word(alloc)?, word))
         }
-        Path::Of(module, x) => Ok(Tree::Global(
-            spot_word(alloc, module)?,
-            spot_word(alloc, x)?,
-        )),
+        Path::Of(module, x) => Ok(Tree::Global(spot_word(alloc, module)?, spot_word(alloc, x)?)),
     }
 }
 
 /// A name that is called.
-fn called_tree(alloc: Global, names: &NameSet, path: &Path, arguments: ExprList) -> Result<Tree, NoMemory>
+fn called_tree(
+    alloc: Global,
+    names: &NameSet,
+    path: &Path,
+    arguments: ExprList,
+) -> Result<Tree, NoMemory>
     ensures { IfOk result (λ t. t ≡ called names.now path.now arguments) }
 {
     match path {
@@ -56,10 +58,7 @@ fn latest_tree(alloc: Global, arguments: ExprList) -> Result<Tree, NoMemory>
     ensures { IfOk result (λ t. t ≡ latest arguments) }
 {
     if arguments.is_empty() {
-        return Ok(Tree::Latest(
-            Boxed::new(alloc, Tree::Nothing)?,
-            Items::new(alloc),
-        ));
+        return Ok(Tree::Latest(Boxed::new(alloc, Tree::Nothing)?, Items::new(alloc)));
     }
     let mut rest = arguments;
     let callee = rest.remove(0);
