@@ -1,3 +1,3 @@
-pub mod Ending
-pub mod Paths
-pub mod Stacking
+pub mod Moving
+pub mod Progress
+pub mod Words

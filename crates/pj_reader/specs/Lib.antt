@@ -1,3 +1,2 @@
-pub mod Places
-pub mod Stacked
-pub mod Tops
+pub mod Read
+pub mod Words

@@ -1,12 +1,8 @@
 //! Reads the tokens of a text into its tree, by the machine of the grammar.
 #![tactic(auto)]
 
-pub mod calls;
-pub mod depth;
-pub mod need;
-pub mod operands;
-pub mod place;
-pub mod reading;
-pub mod settling;
-pub mod stack;
-pub mod view;
+pub mod fault;
+pub mod items;
+pub mod lines;
+pub mod machine;
+pub mod reader;

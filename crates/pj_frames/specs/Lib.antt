@@ -1,0 +1,3 @@
+pub mod Places
+pub mod Stacked
+pub mod Tops

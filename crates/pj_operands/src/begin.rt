@@ -1,0 +1,394 @@
+//! How operands, arguments, parameters and names begin.
+ghost use Rattle.std.specs.Prelude.{◌≡◌, ◌∷◌, [], ℕ, true, IfOk};
+ghost use Rattle.pj_syntax.specs.declared.expression.Path.{Path};
+ghost use Rattle.pj_grammar.specs.Frames.{at as state_at};
+ghost use Rattle.pj_grammar.specs.Machine.{argument, base_operator, close_types, end_arguments, field_name, member_name, operand, operand_literal, operand_sign, opens_types, parameter, path_start, quote, short_assign, type_argument, types};
+ghost use Rattle.pj_frames.specs.Places.{place_of};
+ghost use Rattle.pj_frames.specs.Stacked.{frames_of};
+ghost use Rattle.pj_frames.specs.Tops.{in_directive};
+
+use crate::calls::{close_call, only_of, type_of_param};
+use pj_ends::params::end_params;
+use pj_frames::place::Place;
+use pj_frames::reading::{Answer, Reading, at, guarded, guarded_over, over};
+use pj_frames::stack::{Layer, Stack, split_top};
+use pj_frames::view::{admits, takes_directives, takes_lines};
+use pj_base::Text;
+use pj_grammar::{Form, Frame, Given, Head, Level, Mode, Node, Operator, Purpose};
+use pj_lex::{Sign, TokenKind};
+use pj_making::bounds::small;
+use pj_making::expressions::{field_of, leaf, literal_of};
+use pj_making::levels::{is_prefix, operator_text};
+use pj_making::params::params_of;
+use pj_syntax::{Expr, Path, PathList, Spot};
+use sqlite_items::Items;
+use std::alloc::Global;
+
+/// A name was read.
+fn named(text: Text, place: Place, stack: Stack) -> Option<Reading>
+    ensures { result ≡ state_at (Mode.Have (Head.Name (record { text = text; at = place.start }))) stack }
+{
+    let at_place = place.start;
+    at(Mode::Have(Head::Name(Spot { text, at: at_place })), stack)
+}
+
+/// Whether a statement that may be a directive begins below a call.
+fn in_directive(layers: &[Layer]) -> bool
+    ensures { result ≡ in_directive (frames_of layers.now) }
+{
+    match split_top(layers) {
+        Some((Frame::Hole(Purpose::Value), below)) => takes_directives(below),
+        Some((_, _)) => false,
+        None => false,
+    }
+}
+
+/// Whether a group may be the types of a directive.
+fn opens_types(layers: &[Layer]) -> bool
+    ensures { result ≡ opens_types (frames_of layers.now) }
+{
+    match split_top(layers) {
+        Some((Frame::Call(Path::Bare(f), Given::Paths(paths)), below)) => {
+            paths.len() == 1 && f.text.as_str() == "precompile" && in_directive(below)
+        }
+        Some((_, _)) => false,
+        None => false,
+    }
+}
+
+/// No types, behind the function of a directive.
+fn no_types_in(alloc: Global, start: usize, f: Path, g: Path, mut stack: Stack) -> Answer
+    ensures { IfOk result (λ r. r ≡ close_types (Frame.Group start true ∷ Frame.Call f (Given.Paths (g ∷ [])) ∷ stack)) }
+{
+    match stack.pop() {
+        Some(Frame::Hole(Purpose::Value)) => {
+            let frame = Frame::Types(g, Items::new(alloc));
+            over(Mode::DirectiveEnd, frame, stack)
+        }
+        Some(_) => Ok(None),
+        None => Ok(None),
+    }
+}
+
+/// No types, behind names.
+fn no_types_behind(
+    alloc: Global,
+    start: usize,
+    f: Path,
+    paths: PathList,
+    stack: Stack,
+) -> Answer
+    ensures { IfOk result (λ r. r ≡ close_types (Frame.Group start true ∷ Frame.Call f (Given.Paths paths) ∷ stack)) }
+{
+    match only_of(paths) {
+        Some(g) => no_types_in(alloc, start, f, g, stack),
+        None => Ok(None),
+    }
+}
+
+/// No types, behind arguments.
+fn no_types_call(alloc: Global, start: usize, f: Path, given: Given, stack: Stack) -> Answer
+    ensures { IfOk result (λ r. r ≡ close_types (Frame.Group start true ∷ Frame.Call f given ∷ stack)) }
+{
+    match given {
+        Given::Paths(paths) => no_types_behind(alloc, start, f, paths, stack),
+        Given::Mixed(_) => Ok(None),
+    }
+}
+
+/// No types, in a call.
+fn no_types_over(alloc: Global, start: usize, mut stack: Stack) -> Answer
+    ensures { IfOk result (λ r. r ≡ close_types (Frame.Group start true ∷ stack)) }
+{
+    match stack.pop() {
+        Some(Frame::Call(f, given)) => no_types_call(alloc, start, f, given, stack),
+        Some(_) => Ok(None),
+        None => Ok(None),
+    }
+}
+
+/// No types of a directive.
+fn close_types(alloc: Global, mut stack: Stack) -> Answer
+    ensures { IfOk result (λ r. r ≡ close_types stack) }
+{
+    match stack.pop() {
+        Some(Frame::Group(start, true)) => no_types_over(alloc, start, stack),
+        Some(_) => Ok(None),
+        None => Ok(None),
+    }
+}
+
+/// A sign where an operand may begin.
+fn operand_sign(alloc: Global, stack: Stack, start: usize, sign: Sign) -> Answer
+    ensures { IfOk result (λ r. r ≡ operand_sign stack start sign) }
+{
+    match sign {
+        Sign::LeftParen => {
+            let types = opens_types(stack.layers());
+            over(Mode::Want, Frame::Group(start, types), stack)
+        }
+        Sign::RightParen => close_types(alloc, stack),
+        _ => {
+            let operator = Operator { sign, at: start };
+            guarded_over(is_prefix(sign), Mode::Want, Frame::Prefix(operator), stack)
+        }
+    }
+}
+
+/// A literal, if it is one.
+fn operand_literal(stack: Stack, start: usize, tree: Option<Expr>) -> Option<Reading>
+    ensures { result ≡ operand_literal stack start tree }
+{
+    match tree {
+        Some(tree) => at(Mode::Have(Head::Plain(leaf(start, tree))), stack),
+        None => None,
+    }
+}
+
+/// An operand begins.
+pub fn operand(alloc: Global, stack: Stack, place: Place, kind: TokenKind) -> Answer
+    ensures { IfOk result (λ r. r ≡ operand stack (place_of place) kind) }
+{
+    match kind {
+        TokenKind::Name(text) => Ok(named(text, place, stack)),
+        TokenKind::Sign(sign) => operand_sign(alloc, stack, place.start, sign),
+        other => Ok(operand_literal(stack, place.start, literal_of(other))),
+    }
+}
+
+/// The arguments end where one may begin.
+fn end_arguments(mut stack: Stack) -> Answer
+    ensures { IfOk result (λ r. r ≡ end_arguments stack) }
+{
+    match stack.pop() {
+        Some(Frame::Call(f, given)) => close_call(f, given, stack),
+        Some(_) => Ok(None),
+        None => Ok(None),
+    }
+}
+
+/// `::` where an argument may begin, behind names.
+fn type_behind(alloc: Global, start: usize, f: Path, paths: PathList, mut stack: Stack) -> Answer
+    ensures { IfOk result (λ r. r ≡ type_argument start (Frame.Call f (Given.Paths paths) ∷ stack)) }
+{
+    match stack.pop() {
+        Some(Frame::Hole(Purpose::Value)) => {
+            let params = params_of(alloc, paths)?;
+            type_of_param(None, start, f, params, stack)
+        }
+        Some(_) => Ok(None),
+        None => Ok(None),
+    }
+}
+
+/// `::` where an argument may begin, behind arguments.
+fn type_in_call(alloc: Global, start: usize, f: Path, given: Given, stack: Stack) -> Answer
+    ensures { IfOk result (λ r. r ≡ type_argument start (Frame.Call f given ∷ stack)) }
+{
+    match given {
+        Given::Paths(paths) => type_behind(alloc, start, f, paths, stack),
+        Given::Mixed(_) => Ok(None),
+    }
+}
+
+/// `::` where an argument may begin.
+fn type_argument(alloc: Global, start: usize, mut stack: Stack) -> Answer
+    ensures { IfOk result (λ r. r ≡ type_argument start stack) }
+{
+    match stack.pop() {
+        Some(Frame::Call(f, given)) => type_in_call(alloc, start, f, given, stack),
+        Some(_) => Ok(None),
+        None => Ok(None),
+    }
+}
+
+/// `:` behind `eval(` at the front of a statement.
+fn quote_in(f: Spot, mut stack: Stack) -> Answer
+    ensures { IfOk result (λ r. r ≡ quote (Frame.Call (Path.Bare f) (Given.Paths []) ∷ stack)) }
+{
+    match stack.pop() {
+        Some(Frame::Hole(Purpose::Value)) => {
+            let holds = f.text.as_str() == "eval" && takes_lines(stack.layers());
+            Ok(guarded(holds, Mode::EvalOpen, stack))
+        }
+        Some(_) => Ok(None),
+        None => Ok(None),
+    }
+}
+
+/// `:` behind a name and no arguments.
+fn quote_path(f: Path, stack: Stack) -> Answer
+    ensures { IfOk result (λ r. r ≡ quote (Frame.Call f (Given.Paths []) ∷ stack)) }
+{
+    match f {
+        Path::Bare(f) => quote_in(f, stack),
+        Path::Of(_, _) => Ok(None),
+    }
+}
+
+/// `:` behind names.
+fn quote_over(f: Path, paths: PathList, stack: Stack) -> Answer
+    ensures { IfOk result (λ r. r ≡ quote (Frame.Call f (Given.Paths paths) ∷ stack)) }
+{
+    if paths.is_empty() {
+        quote_path(f, stack)
+    } else {
+        Ok(None)
+    }
+}
+
+/// `:` behind arguments.
+fn quote_call(f: Path, given: Given, stack: Stack) -> Answer
+    ensures { IfOk result (λ r. r ≡ quote (Frame.Call f given ∷ stack)) }
+{
+    match given {
+        Given::Paths(paths) => quote_over(f, paths, stack),
+        Given::Mixed(_) => Ok(None),
+    }
+}
+
+/// `:` where an argument may begin.
+fn quote(mut stack: Stack) -> Answer
+    ensures { IfOk result (λ r. r ≡ quote stack) }
+{
+    match stack.pop() {
+        Some(Frame::Call(f, given)) => quote_call(f, given, stack),
+        Some(_) => Ok(None),
+        None => Ok(None),
+    }
+}
+
+/// An argument begins, or the arguments end.
+pub fn argument(alloc: Global, stack: Stack, place: Place, kind: TokenKind) -> Answer
+    ensures { IfOk result (λ r. r ≡ argument stack (place_of place) kind) }
+{
+    match kind {
+        TokenKind::Sign(Sign::RightParen) => end_arguments(stack),
+        TokenKind::Sign(Sign::DoubleColon) => type_argument(alloc, place.start, stack),
+        TokenKind::Sign(Sign::Colon) => quote(stack),
+        other => operand(alloc, stack, place, other),
+    }
+}
+
+/// A parameter begins, or the parameters end.
+pub fn parameter(alloc: Global, stack: Stack, place: Place, kind: TokenKind) -> Answer
+    ensures { IfOk result (λ r. r ≡ parameter stack (place_of place) kind) }
+{
+    match kind {
+        TokenKind::Sign(Sign::RightParen) => end_params(alloc, stack),
+        TokenKind::Sign(Sign::DoubleColon) => {
+            over(Mode::PathStart, Frame::TypeOf(None, place.start), stack)
+        }
+        TokenKind::Name(text) => Ok(named(text, place, stack)),
+        _ => Ok(None),
+    }
+}
+
+/// `=` behind the parameters of a short definition.
+pub fn short_assign(mut stack: Stack, kind: TokenKind) -> Answer
+    ensures { IfOk result (λ r. r ≡ short_assign stack kind) }
+{
+    match stack.pop() {
+        Some(Frame::Signature(Form::Short, f, params)) => match kind {
+            TokenKind::Sign(Sign::Assign) => {
+                over(Mode::Want, Frame::Hole(Purpose::Short(f, params)), stack)
+            }
+            _ => Ok(None),
+        },
+        Some(_) => Ok(None),
+        None => Ok(None),
+    }
+}
+
+/// A field behind the dot.
+fn field_read(alloc: Global, e: Node, assignable: bool, field: Spot, stack: Stack) -> Answer
+    ensures { IfOk result (λ r. r ≡ field_name e assignable stack (record { start = field.at; end = 0; blank = true }) (TokenKind.Name field.text)) }
+{
+    if assignable {
+        return Ok(at(Mode::Have(Head::Place(e, field)), stack));
+    }
+    small(e.nesting)?;
+    let e = field_of(alloc, e, field)?;
+    Ok(at(Mode::Have(Head::Plain(e)), stack))
+}
+
+/// A field's name behind the dot.
+pub fn field_name(
+    alloc: Global,
+    e: Node,
+    assignable: bool,
+    stack: Stack,
+    place: Place,
+    kind: TokenKind,
+) -> Answer
+    ensures { IfOk result (λ r. r ≡ field_name e assignable stack (place_of place) kind) }
+{
+    match kind {
+        TokenKind::Name(text) => {
+            let field = Spot {
+                text,
+                at: place.start,
+            };
+            field_read(alloc, e, assignable, field, stack)
+        }
+        _ => Ok(None),
+    }
+}
+
+/// A name behind a module and its dot, or the colon of `Base.:OP`.
+pub fn member_name(m: Spot, stack: Stack, place: Place, kind: TokenKind) -> Option<Reading>
+    ensures { result ≡ member_name m stack (place_of place) kind }
+{
+    match kind {
+        TokenKind::Name(text) => {
+            let x = Spot {
+                text,
+                at: place.start,
+            };
+            at(Mode::Have(Head::Member(m, x)), stack)
+        }
+        TokenKind::Sign(Sign::Colon) => {
+            let holds = m.text.as_str() == "Base" && admits(stack.layers(), Level::Callee);
+            guarded(holds, Mode::BaseOperator(m), stack)
+        }
+        _ => None,
+    }
+}
+
+/// The operator of `Base.:OP`.
+pub fn base_operator(alloc: Global, m: Spot, stack: Stack, place: Place, kind: TokenKind) -> Answer
+    ensures { IfOk result (λ r. r ≡ base_operator m stack (place_of place) kind) }
+{
+    match kind {
+        TokenKind::Sign(sign) => {
+            let text = Text::from_str(alloc, operator_text(sign))?;
+            let x = Spot {
+                text,
+                at: place.start,
+            };
+            Ok(guarded(sign.is_operator(), Mode::Have(Head::Operator(m, x)), stack))
+        }
+        _ => Ok(None),
+    }
+}
+
+/// A name that may have a module begins.
+pub fn path_start(stack: Stack, place: Place, kind: TokenKind) -> Option<Reading>
+    ensures { result ≡ path_start stack (place_of place) kind }
+{
+    match kind {
+        TokenKind::Name(text) => named(text, place, stack),
+        _ => None,
+    }
+}
+
+/// A type of a directive begins, or the types end.
+pub fn types(stack: Stack, place: Place, kind: TokenKind) -> Option<Reading>
+    ensures { result ≡ types stack (place_of place) kind }
+{
+    match kind {
+        TokenKind::Sign(Sign::RightParen) => at(Mode::DirectiveEnd, stack),
+        TokenKind::Name(text) => named(text, place, stack),
+        _ => None,
+    }
+}

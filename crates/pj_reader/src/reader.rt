@@ -1,0 +1,171 @@
+//! The reader of texts.
+ghost use Rattle.std.specs.Prelude.{◌≡◌, ◌≤◌, ◌<◌, IfErr, IfOk, Some, length, reverse};
+ghost use Rattle.pj_grammar.specs.Machine.{accepted, read_frames, start};
+ghost use Rattle.pj_reader.specs.Read.{GoesOn, IsFault, IsNextFault, IsRead, Progress, kind_of};
+
+use crate::fault::{ReadFault, TextKind};
+use crate::machine::step;
+use pj_frames::need::need;
+use pj_frames::reading::{Reading, parts, reading_at};
+use pj_frames::stack::Stack;
+use pj_base::NoMemory;
+use pj_grammar::{Entries, Frame, Mode, Parsed, Root};
+use pj_lex::{Token, TokenList};
+use pj_making::items::no_entries;
+use pj_making::modules::ModuleNames;
+use pj_syntax::{Package, Script};
+use sqlite_items::Items;
+use std::alloc::Global;
+
+/// How deep a text may nest.
+const LIMIT: usize = 128;
+
+/// Where a reader begins.
+fn started(alloc: Global, kind: TextKind) -> Result<Reading, NoMemory>
+    ensures { IfOk result (λ r. r ≡ start (kind_of kind)) }
+{
+    let mut stack = Stack::new(alloc);
+    match kind {
+        TextKind::Script => {
+            stack.push(Frame::Items(Root::Script, no_entries(alloc)))?;
+            Ok(reading_at(Mode::Line, stack))
+        }
+        TextKind::Package => Ok(reading_at(Mode::PackageStart, stack)),
+    }
+}
+
+/// One token more.
+fn next(
+    alloc: Global,
+    modules: &ModuleNames,
+    reading: Reading,
+    token: Token,
+    number: usize,
+) -> Result<Reading, ReadFault>
+    ensures ok { IfOk result (GoesOn modules.now reading token) }
+    ensures err { IfErr result (IsNextFault modules.now reading token number) }
+{
+    match step(alloc, modules, reading, token)? {
+        Some(next) => {
+            if need(&next) <= LIMIT {
+                Ok(next)
+            } else {
+                Err(ReadFault::Deep(number))
+            }
+        }
+        None => Err(ReadFault::Grammar(number)),
+    }
+}
+
+/// The tokens, the last first.
+fn reversed(alloc: Global, tokens: TokenList) -> Result<TokenList, NoMemory>
+    ensures { IfOk result (λ turned. turned ≡ reverse tokens) }
+{
+    let mut rest = tokens;
+    let mut turned = Items::new(alloc);
+    while let Some(token) = rest.pop() {
+        turned.push(token)?;
+    }
+    Ok(turned)
+}
+
+/// All tokens, one by one.
+fn read_all(
+    alloc: Global,
+    modules: &ModuleNames,
+    kind: TextKind,
+    tokens: TokenList,
+) -> Result<Reading, ReadFault>
+    ensures ok { IfOk result (Progress modules.now (kind_of kind) tokens []) }
+    ensures err { IfErr result (IsFault modules.now (kind_of kind) tokens) }
+{
+    let mut reading = started(alloc, kind)?;
+    let mut rest = reversed(alloc, tokens)?;
+    let total = rest.len();
+    while let Some(token) = rest.pop() {
+        let number = total - 1 - rest.len();
+        reading = next(alloc, modules, reading, token, number)?;
+    }
+    Ok(reading)
+}
+
+/// The tree of what was read, and how deep it nests.
+fn tree_of(root: Root, entries: Entries) -> (Parsed, usize)
+    ensures { read_frames (Frame.Items root entries ∷ []) ≡ Some result }
+{
+    let Entries { trees, nesting } = entries;
+    match root {
+        Root::Script => (Parsed::Script(Script { items: trees }), nesting),
+        Root::Package(name, uses) => {
+            let package = Package {
+                name,
+                uses,
+                items: trees,
+            };
+            (Parsed::Package(package), nesting)
+        }
+    }
+}
+
+/// The tree of a stack that holds a whole text and nothing else.
+fn read_frames(mut stack: Stack) -> Option<(Parsed, usize)>
+    ensures { result ≡ read_frames stack }
+{
+    let frame = stack.pop()?;
+    let rest = stack.pop().is_none();
+    match frame {
+        Frame::Items(root, entries) => {
+            if rest {
+                Some(tree_of(root, entries))
+            } else {
+                None
+            }
+        }
+        other => no_tree(other),
+    }
+}
+
+/// No tree, where a frame holds no text.
+fn no_tree(_frame: Frame) -> Option<(Parsed, usize)>
+    ensures { result ≡ None }
+{
+    None
+}
+
+/// The tree of a text that was read whole, and how deep it nests.
+fn accepted(reading: Reading) -> Option<(Parsed, usize)>
+    ensures { result ≡ accepted (Some reading) }
+{
+    let (mode, stack) = parts(reading);
+    if is_accepted(&mode) {
+        read_frames(stack)
+    } else {
+        None
+    }
+}
+
+/// Whether a text has ended.
+fn is_accepted(mode: &Mode) -> bool
+    ensures { result ≡ ends_text mode.now }
+{
+    matches!(mode, Mode::Accepted)
+}
+
+/// Reads the tokens of a text. The tree is the one with which the grammar's machine accepts them. A fault is at the first token to
+/// which the machine has no answer, or none that needs no more than a text may nest.
+pub fn read(
+    alloc: Global,
+    modules: &ModuleNames,
+    kind: TextKind,
+    tokens: TokenList,
+) -> Result<Parsed, ReadFault>
+    ensures read { IfOk result (IsRead modules.now (kind_of kind) tokens) }
+    ensures fault { IfErr result (IsFault modules.now (kind_of kind) tokens) }
+{
+    let count = tokens.len();
+    let last = read_all(alloc, modules, kind, tokens)?;
+    match accepted(last) {
+        Some((tree, _)) => Ok(tree),
+        None => Err(ReadFault::Grammar(count)),
+    }
+}
