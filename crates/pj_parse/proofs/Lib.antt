@@ -1,15 +1,1 @@
-pub mod Binds
-pub mod Chains
-pub mod Commas
-pub mod Complete
-pub mod Cuts
-pub mod Items
-pub mod Lists
-pub mod Numbers
-pub mod Places
-pub mod Scopes
-pub mod Signs
-pub mod Sound
-pub mod TextComplete
-pub mod TextSound
-pub mod Words
+pub mod Readings

@@ -1,9 +1,1 @@
-pub mod Grammar
-pub mod Lexical
-pub mod Lines
-pub mod Names
-pub mod Reading
-pub mod Reads
-pub mod Refused
-pub mod Trees
-pub mod Views
+pub mod Answers

@@ -10,4 +10,5 @@ pub mod script;
 pub mod show;
 pub mod tree;
 
+pub use script::plain_script;
 pub use tree::{Definition, Expr, Item, Operator, Script};

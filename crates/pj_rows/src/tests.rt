@@ -124,7 +124,7 @@ fn scripts_print_what_they_mean(rt: HostRuntime) -> Result<(), Fail> {
         (
             "run 9 m.jl",
             "k(x::Int64) = 9223372036854775808",
-            "syntax m.jl 1:1 Unbuilt\n",
+            "syntax m.jl 1:15 Token\n",
             3,
         ),
         (
@@ -153,6 +153,38 @@ fn scripts_print_what_they_mean(rt: HostRuntime) -> Result<(), Fail> {
             "{line}: {script}"
         );
         assert_eq!(rt; end.code(), status, "{line}: {script}");
+    }
+    Ok(())
+}
+
+#[test]
+fn mistakes_are_told_with_their_place(rt: HostRuntime) -> Result<(), Fail> {
+    for (script, output, status) in [
+        ("x = = 1", "syntax m.jl 1:5 Grammar\n", 3),
+        ("println(\"é\" 1)", "syntax m.jl 1:13 Grammar\n", 3),
+        ("f(x, x) = 1", "syntax m.jl 1:6 Twice\n", 3),
+        (
+            "function q()\nfor i in 1:3\nt = i\nend\nreturn t\nend",
+            "syntax m.jl 5:8 LoopName\n",
+            3,
+        ),
+        ("f(x::Int64) = x\nprintln(f(4)", "syntax m.jl 2:13 Grammar\n", 3),
+        ("\"é\" # \n$", "syntax m.jl 2:1 Token\n", 3),
+        ("using Main", "syntax m.jl 1:7 ModuleName\n", 3),
+        ("return 1", "syntax m.jl 1:1 Outside\n", 3),
+        ("eval(x) = 1", "syntax m.jl 1:1 Reserved\n", 3),
+        ("x = 1", "syntax m.jl 1:1 Unbuilt\n", 3),
+        ("using P", "syntax m.jl 1:1 Unbuilt\n", 3),
+        ("f(x::Int64) = x * 10; println(f(4))", "40\n", 0),
+        (
+            "#= ten times =# f(x::Int64) =\n  x * 10 # as said\n\nprintln(f(\n4))\n",
+            "40\n",
+            0,
+        ),
+    ] {
+        let (sink, end) = run(&rt, rt.alloc(), "run 9 m.jl", Some(script.as_bytes()), 0, 0)?;
+        assert_eq!(rt; sink.written.as_slice(), output.as_bytes(), "{script}");
+        assert_eq!(rt; end.code(), status, "{script}");
     }
     Ok(())
 }
@@ -256,7 +288,7 @@ fn long_and_foreign_texts_are_told(rt: HostRuntime) -> Result<(), Fail> {
     )?;
     assert_eq!(rt;
         sink.written.as_slice(),
-        b"syntax m.jl 1:1 Unbuilt\n".as_slice()
+        b"syntax m.jl 2:1 Utf8\n".as_slice()
     );
     assert_eq!(rt; end.code(), 3);
     Ok(())

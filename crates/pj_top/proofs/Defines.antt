@@ -12,9 +12,9 @@ use Rattle.pj_meaning.specs.Outcome.{Error, Undefined, Redefinition, Run, Outcom
 use Rattle.pj_meaning.specs.Evaluation.{added, defined, define}
 use Rattle.pj_meaning.specs.Base.{base_types, base_methods, base_bindings}
 use Rattle.pj_meaning.specs.Top.{top}
-use Rattle.pj_parse.specs.Names.{base_names}
-use Rattle.pj_parse.specs.Trees.{int_param, define_tree, expr_of}
-use Rattle.pj_parse.specs.declared.tree.Definition.{Definition}
+use Rattle.pj_words.specs.Words.{base_names, is_among}
+use Rattle.pj_plain.specs.Trees.{int_param, define_tree, expr_of}
+use Rattle.pj_plain.specs.declared.tree.Definition.{Definition}
 use Rattle.pj_top.specs.Plain.{definition_of}
 use Rattle.pj_top.proofs.States.{state_of, method_of, methods_from, binding_of, int_types, map-snoc, length-snoc, methods_from-snoc}
 use Rattle.pj_top.proofs.Known.{Good, GoodDefinition, not_base, role_in_main, not_in_base}
@@ -39,7 +39,7 @@ module _ (ds : List Definition) (printed : Text) (good : Good ds) where
   s = state_of ds printed
 
   int_role : role_at s main_name [] (codes "Int64") ≡ Ok (TypeName int_type)
-  unfolding base_names
+  unfolding base_names is_among
   int_role =
       ap (λ o. role_or (or_role o (role_of (base_bindings ++ map binding_of ds) base_name (codes "Int64"))) (Undefined main_name (codes "Int64")))
       (role_in_main (codes "Int64") ds ∙ ap (option_map (λ (x : Definition). FunctionName (id main_name x.name))) (not_base (codes "Int64") ds refl good))
@@ -53,7 +53,7 @@ module _ (ds : List Definition) (printed : Text) (good : Good ds) where
   module _ (d : Definition) (g : GoodDefinition d) (fresh : definition_of d.name ds ≡ None) where
     target_found : target_of s main_name [] d.name ≡ Ok (record { fun = id main_name d.name; is_new = true })
     target_found =
-        ap (λ r. cond (is_some r) (Err (Redefinition main_name d.name)) (own_target (role_of (base_bindings ++ map binding_of ds) main_name d.name) main_name d.name)) (not_in_base d.name ds g.free g.word)
+        ap (λ r. cond (is_some r) (Err (Redefinition main_name d.name)) (own_target (role_of (base_bindings ++ map binding_of ds) main_name d.name) main_name d.name)) (not_in_base d.name ds g.free)
         ∙ ap (λ r. own_target r main_name d.name) (role_in_main d.name ds ∙ ap (option_map (λ (x : Definition). FunctionName (id main_name x.name))) fresh)
 
     abbrev code : Body

@@ -10,11 +10,17 @@ use Rattle.pj_meaning.specs.Tree.{Text, TopItem}
 use Rattle.pj_meaning.specs.Endings.{ending_line}
 use Rattle.pj_outside.specs.Stored.{Files}
 use Rattle.pj_outside.specs.Faults.{Rose}
-use Rattle.pj_parse.specs.Grammar.{IsScript}
-use Rattle.pj_parse.proofs.TextComplete.{lines_read}
+use Rattle.std.proofs.lemmas.Bool.{false≢true}
+use Rattle.pj_lex.specs.declared.fault.SyntaxKind.{SyntaxKind}
+use Rattle.pj_tree.specs.declared.item.ScriptTree.{ScriptTree}
+use Rattle.pj_plain.specs.Held.{held_script}
+use Rattle.pj_plain.specs.Plain.{plain_items}
+use Rattle.pj_text.specs.Texts.{IsScript, IsScriptFault}
+use Rattle.pj_text.proofs.Scripts.{no-fault, one-script, one-script-fault}
+use Rattle.pj_top.specs.Positions.{position_of}
 use Rattle.pj_top.specs.Commands.{IsRun}
 use Rattle.pj_top.specs.Claims.{Adds, AddsFront, Ends, Runs, Begins, Reached, TellsFault, CutsFault, TellsUsage}
-use Rattle.pj_top.specs.Endings.{ScriptEnds, absent, long, unbuilt, runs, CommandEnds, no_command, run, text_limit, usage_line, meaning, status_of, depot_line}
+use Rattle.pj_top.specs.Endings.{ScriptEnds, absent, long, faulty, unbuilt, runs, CommandEnds, no_command, run, text_limit, usage_line, syntax_line, ending_of, printed_of, status_of, depot_line}
 use Rattle.pj_top.specs.Stops.{RunsTo, Reaches, Finishes, Concludes, IfDepotFailedAdds, status_line, ending_status}
 use Rattle.pj_top.proofs.Loop.{take-min, min_le}
 use Rattle.pj_top.specs.declared.status.Status.{Status}
@@ -23,34 +29,51 @@ use Rattle.pj_top.specs.declared.stop.Stop.{Stop}
 use Rattle.pj_top.specs.declared.stop.Ending.{Ending}
 use Rattle.pj_top.specs.declared.stop.Ending.TheVariants as ending
 
--- a text spells one script
-one_script : (bytes : Text) (a b : List TopItem) → IsScript bytes a → IsScript bytes b → a ≡ b
-one_script bytes a b x y =
-    let both = sym (lines_read x tt) ∙ lines_read y tt in
-    let same : a ≡ b = cc in
-    same
+-- a file isn't both within the limit and beyond it
+too_long : (a b : Text) → a ≡ b → text_limit < length a → length b ≤ text_limit → ⊥
+too_long a b same past short = omega (arith, past, short, ap (λ (x : Text). length x) same)
+
+-- a tree isn't both of the form that runs and of another
+not_both : (a b : ScriptTree) → a ≡ b → plain_items [] (held_script a) ≡ false → plain_items [] (held_script b) ≡ true → ⊥
+not_both a b same other plain = false≢true (sym other ∙ ap (λ t. plain_items [] (held_script t)) same ∙ plain)
+
+same_line : (name a b : Text) (o r : ℕ) (w x : SyntaxKind) → a ≡ b → o ≡ r → w ≡ x → syntax_line name (position_of a o) w ≡ syntax_line name (position_of b r) x
+same_line name a b o r w x bytes places kinds =
+    ap (λ y. syntax_line name (position_of y o) w) bytes ∙ ap (λ y. syntax_line name (position_of b y) w) places ∙ ap (λ y. syntax_line name (position_of b r) y) kinds
 
 -- a script's run has one printed text
 pub one_printed : (name : Text) (file : Option Text) (steps : ℕ) (p l q m : Text) (s t : Status) → ScriptEnds name file steps p l s → ScriptEnds name file steps q m t → (p ≡ q) × (l ≡ m) × (s ≡ t)
 one_printed name file steps p l q m s t (absent e) (absent f) = (refl, refl, refl)
 one_printed name file steps p l q m s t (absent e) (long b f k) = cc
-one_printed name file steps p l q m s t (absent e) (unbuilt b f k n) = cc
-one_printed name file steps p l q m s t (absent e) (runs b i f k n) = cc
+one_printed name file steps p l q m s t (absent e) (faulty b o w f k n) = cc
+one_printed name file steps p l q m s t (absent e) (unbuilt b i f k n v) = cc
+one_printed name file steps p l q m s t (absent e) (runs b i f k n v) = cc
 one_printed name file steps p l q m s t (long a e h) (absent f) = cc
 one_printed name file steps p l q m s t (long a e h) (long b f k) = (refl, refl, refl)
-one_printed name file steps p l q m s t (long a e h) (unbuilt b f k n) = let same : a ≡ b = cc in absurd (omega (arith, h, k, ap (λ (x : Text). length x) same))
-one_printed name file steps p l q m s t (long a e h) (runs b i f k n) = let same : a ≡ b = cc in absurd (omega (arith, h, k, ap (λ (x : Text). length x) same))
-one_printed name file steps p l q m s t (unbuilt a e h j) (absent f) = cc
-one_printed name file steps p l q m s t (unbuilt a e h j) (long b f k) = let same : a ≡ b = cc in absurd (omega (arith, h, k, ap (λ (x : Text). length x) same))
-one_printed name file steps p l q m s t (unbuilt a e h j) (unbuilt b f k n) = (refl, refl, refl)
-one_printed name file steps p l q m s t (unbuilt a e h j) (runs b i f k n) = let same : b ≡ a = cc in absurd (j i (subst (λ x. IsScript x i) same n))
-one_printed name file steps p l q m s t (runs a i e h j) (absent f) = cc
-one_printed name file steps p l q m s t (runs a i e h j) (long b f k) = let same : a ≡ b = cc in absurd (omega (arith, h, k, ap (λ (x : Text). length x) same))
-one_printed name file steps p l q m s t (runs a i e h j) (unbuilt b f k n) = let same : a ≡ b = cc in absurd (n i (subst (λ x. IsScript x i) same j))
-one_printed name file steps p l q m s t (runs a i e h j) (runs b o f k n) =
+one_printed name file steps p l q m s t (long a e h) (faulty b o w f k n) = absurd (too_long a b (cc) h k)
+one_printed name file steps p l q m s t (long a e h) (unbuilt b i f k n v) = absurd (too_long a b (cc) h k)
+one_printed name file steps p l q m s t (long a e h) (runs b i f k n v) = absurd (too_long a b (cc) h k)
+one_printed name file steps p l q m s t (faulty a o w e h j) (absent f) = cc
+one_printed name file steps p l q m s t (faulty a o w e h j) (long b f k) = absurd (too_long b a (cc) k h)
+one_printed name file steps p l q m s t (faulty a o w e h j) (faulty b r x f k n) =
     let same : b ≡ a = cc in
-    let one = one_script a i o j (subst (λ x. IsScript x o) same n) in
-    (ap (λ is'. (meaning is' steps).last.state.printed) one, ap (λ is'. ending_line (meaning is' steps).ending) one, ap (λ is'. status_of (meaning is' steps).ending) one)
+    let one = one-script-fault j (subst (λ y. IsScriptFault y r x) same n) in
+    (refl, same_line name a b o r w x (sym same) one.0 one.1, refl)
+one_printed name file steps p l q m s t (faulty a o w e h j) (unbuilt b i f k n v) = let same : b ≡ a = cc in absurd (no-fault (subst (λ y. IsScript y i) same n) j)
+one_printed name file steps p l q m s t (faulty a o w e h j) (runs b i f k n v) = let same : b ≡ a = cc in absurd (no-fault (subst (λ y. IsScript y i) same n) j)
+one_printed name file steps p l q m s t (unbuilt a i e h j u) (absent f) = cc
+one_printed name file steps p l q m s t (unbuilt a i e h j u) (long b f k) = absurd (too_long b a (cc) k h)
+one_printed name file steps p l q m s t (unbuilt a i e h j u) (faulty b o w f k n) = let same : b ≡ a = cc in absurd (no-fault j (subst (λ y. IsScriptFault y o w) same n))
+one_printed name file steps p l q m s t (unbuilt a i e h j u) (unbuilt b o f k n v) = (refl, refl, refl)
+one_printed name file steps p l q m s t (unbuilt a i e h j u) (runs b o f k n v) = let same : b ≡ a = cc in absurd (not_both i o (one-script j (subst (λ y. IsScript y o) same n)) u v)
+one_printed name file steps p l q m s t (runs a i e h j u) (absent f) = cc
+one_printed name file steps p l q m s t (runs a i e h j u) (long b f k) = absurd (too_long b a (cc) k h)
+one_printed name file steps p l q m s t (runs a i e h j u) (faulty b o w f k n) = let same : b ≡ a = cc in absurd (no-fault j (subst (λ y. IsScriptFault y o w) same n))
+one_printed name file steps p l q m s t (runs a i e h j u) (unbuilt b o f k n v) = let same : b ≡ a = cc in absurd (not_both o i (sym (one-script j (subst (λ y. IsScript y o) same n))) v u)
+one_printed name file steps p l q m s t (runs a i e h j u) (runs b o f k n v) =
+    let same : b ≡ a = cc in
+    let one = one-script j (subst (λ y. IsScript y o) same n) in
+    (ap (λ y. printed_of (held_script y) steps) one, ap (λ y. ending_line (ending_of (held_script y) steps)) one, ap (λ y. status_of (ending_of (held_script y) steps)) one)
 
 -- words are one run
 
@@ -143,6 +166,7 @@ module _ (words : List Text) (files : Option Files) (before mid now : Option Tex
   not_memory ending.Steps h = cc
   not_memory ending.Missing h = cc
   not_memory ending.TooLong h = cc
+  not_memory (ending.Faulty f) h = cc
   not_memory ending.Unbuilt h = cc
   not_memory ending.DepotFailed h = cc
 
@@ -151,6 +175,7 @@ module _ (words : List Text) (files : Option Files) (before mid now : Option Tex
   not_sink ending.Steps h = cc
   not_sink ending.Missing h = cc
   not_sink ending.TooLong h = cc
+  not_sink (ending.Faulty f) h = cc
   not_sink ending.Unbuilt h = cc
   not_sink ending.DepotFailed h = cc
 
@@ -164,6 +189,7 @@ module _ (words : List Text) (files : Option Files) (before mid now : Option Tex
   left_by file old ending.Steps r = printed r.0 r.1 r.2
   left_by file old ending.Missing r = printed r.0 r.1 r.2
   left_by file old ending.TooLong r = printed r.0 r.1 r.2
+  left_by file old (ending.Faulty f) r = printed r.0 r.1 r.2
   left_by file old ending.Unbuilt r = printed r.0 r.1 r.2
   left_by file old ending.DepotFailed r = failed refl r
 
@@ -207,6 +233,7 @@ module _ (words : List Text) (files : Option Files) (before mid now : Option Tex
   reached_by file ending.Steps r n = r
   reached_by file ending.Missing r n = r
   reached_by file ending.TooLong r n = r
+  reached_by file (ending.Faulty f) r n = r
   reached_by file ending.Unbuilt r n = r
   reached_by file ending.DepotFailed r n = absurd (n refl)
 
@@ -265,6 +292,7 @@ module _ (words : List Text) (files : Option Files) (before mid now : Option Tex
   depot_line_put old ending.Steps status adds told (inl t) m = cc
   depot_line_put old ending.Missing status adds told (inl t) m = cc
   depot_line_put old ending.TooLong status adds told (inl t) m = cc
+  depot_line_put old (ending.Faulty f) status adds told (inl t) m = cc
   depot_line_put old ending.Unbuilt status adds told (inl t) m = cc
   depot_line_put old ending.DepotFailed status adds told (inl t) m = by_case (concluded old [] ending.DepotFailed status adds told)
     where

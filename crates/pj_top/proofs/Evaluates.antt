@@ -14,13 +14,13 @@ use Rattle.pj_meaning.specs.Outcome.{Run, Outcome, Gives, Raises, Stops, after, 
 use Rattle.pj_meaning.specs.Calls.{Enter, types_of, intrinsic, call_named, call_function}
 use Rattle.pj_meaning.specs.Evaluation.{Frame, Locals, lookup, parameters, expr, exprs, in_body, enter_at}
 use Rattle.pj_meaning.specs.Base.{base_types}
-use Rattle.pj_parse.specs.Names.{is_among, all_different}
-use Rattle.pj_parse.specs.Trees.{expr_of, symbol_of, ExprFits}
-use Rattle.pj_parse.specs.declared.tree.Operator.{Operator}
-use Rattle.pj_parse.specs.declared.tree.Operator.TheVariants.{Add, Subtract, Multiply}
-use Rattle.pj_parse.specs.declared.tree.Expr.{Expr}
-use Rattle.pj_parse.specs.declared.tree.Expr.TheVariants.{Literal, Parameter, Binary'}
-use Rattle.pj_parse.specs.declared.tree.Definition.{Definition}
+use Rattle.pj_plain.specs.Names.{is_among, all_different}
+use Rattle.pj_plain.specs.Trees.{expr_of, symbol_of, ExprFits}
+use Rattle.pj_plain.specs.declared.tree.Operator.{Operator}
+use Rattle.pj_plain.specs.declared.tree.Operator.TheVariants.{Add, Subtract, Multiply}
+use Rattle.pj_plain.specs.declared.tree.Expr.{Expr}
+use Rattle.pj_plain.specs.declared.tree.Expr.TheVariants.{Literal, Parameter, Binary'}
+use Rattle.pj_plain.specs.declared.tree.Definition.{Definition}
 use Rattle.pj_top.specs.Plain.{Counted, applied, charge, with_number, number_of}
 use Rattle.pj_top.proofs.Texts.{text_itself, or_left, or_right, and_left, and_right, not_true}
 use Rattle.pj_top.proofs.States.{state_of}

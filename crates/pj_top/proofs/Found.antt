@@ -8,7 +8,7 @@ use Rattle.std.proofs.lemmas.List.{length-map}
 use Rattle.std.proofs.lemmas.Option.{slice_get_past}
 use Rattle.pj_base.specs.Interned.{Interns, has_text, found_at}
 use Rattle.pj_base.proofs.PlaceLemmas.{position_or_len-map}
-use Rattle.pj_parse.specs.declared.tree.Definition.{Definition}
+use Rattle.pj_plain.specs.declared.tree.Definition.{Definition}
 use Rattle.pj_meaning.specs.Tree.{Text}
 use Rattle.pj_top.specs.Plain.{definition_of}
 

@@ -14,19 +14,18 @@ use Rattle.pj_meaning.specs.Values.{Whole}
 use Rattle.pj_meaning.specs.Calls.{types_of}
 use Rattle.pj_meaning.specs.State.{Role, FunctionName, Binding, role_in, role_of}
 use Rattle.pj_meaning.specs.Base.{base_types, base_methods, base_bindings}
-use Rattle.pj_parse.specs.Names.{is_among, base_names, all_different}
-use Rattle.pj_parse.specs.Lexical.{first_is, starts_word}
-use Rattle.pj_parse.specs.Trees.{ExprFits}
-use Rattle.pj_parse.specs.declared.tree.Definition.{Definition}
+use Rattle.pj_plain.specs.Names.{all_different}
+use Rattle.pj_plain.specs.Trees.{ExprFits}
+use Rattle.pj_plain.specs.declared.tree.Definition.{Definition}
 use Rattle.pj_top.specs.Plain.{definition_of}
+use Rattle.pj_words.specs.Words.{base_names, is_among, is_base_name}
 use Rattle.pj_top.proofs.Texts.{same_text, text_itself, never_true, not_both, bytes_eq-comm, and_left, and_right}
 use Rattle.pj_top.proofs.States.{int_types, methods_from, method_of, binding_of}
 use Rattle.pj_top.proofs.Picks.{seen_base}
 
 -- a definition that adds a function of its own
 pub record GoodDefinition (d : Definition) : Type 0 where
-  pub free : is_among d.name base_names ≡ false
-  pub word : first_is starts_word d.name ≡ true
+  pub free : is_base_name d.name ≡ false
   pub different : all_different d.parameters.items ≡ true
   pub fits : ExprFits (length d.parameters.items) d.body
 
@@ -57,12 +56,12 @@ Good-snoc (x ∷ ds) d g good none =
     (g.0, definition_of-snoc x.name ds d g.1 (bytes_eq-comm x.name d.name ∙ apart.0), Good-snoc ds d g.2 good apart.1)
 
 -- a name of Base's is none of theirs
-pub not_base : (name : Text) (ds : List Definition) → is_among name base_names ≡ true → Good ds → definition_of name ds ≡ None
+pub not_base : (name : Text) (ds : List Definition) → is_base_name name ≡ true → Good ds → definition_of name ds ≡ None
 not_base name [] among g = refl
 not_base name (d ∷ ds) among g = rw (differs, not_base name ds among g.2) refl
   where
     differs : bytes_eq name d.name ≡ false
-    differs = never_true (bytes_eq name d.name) (λ e. not_both (is_among d.name base_names) (subst (λ t. is_among t base_names ≡ true) (same_text name d.name e) among) g.0.free)
+    differs = never_true (bytes_eq name d.name) (λ e. not_both (is_base_name d.name) (subst (λ t. is_base_name t ≡ true) (same_text name d.name e) among) g.0.free)
 
 -- what a name means in Main
 pub role_in_main : (name : Text) (ds : List Definition) → role_of (base_bindings ++ map binding_of ds) main_name name ≡ option_map (λ (d : Definition). FunctionName (id main_name d.name)) (definition_of name ds)
@@ -136,23 +135,16 @@ pick_own name zs ds d g found count =
     ∙ one.1 in
     (one.0, ap (chosen_among base_types) apps ∙ (rw (ints_below d.parameters.items) refl))
 
--- what Base binds: words that no definition is called, and signs
+-- a name that Base doesn't bind is none of these
+not_of_base : (name w : Text) → is_base_name name ≡ false → is_base_name w ≡ true → bytes_eq w name ≡ false
+not_of_base name w free of_base =
+    never_true (bytes_eq w name) (λ e. not_both (is_base_name name) (subst (λ t. is_base_name t ≡ true) (same_text w name e) of_base) free)
 
-abbrev is_of_base : Text → Bool
-is_of_base w = is_among w base_names || not (first_is starts_word w)
-
-not_of_base : (name w : Text) → is_among name base_names ≡ false → first_is starts_word name ≡ true → is_of_base w ≡ true → bytes_eq w name ≡ false
-not_of_base name w free word of_base =
-    never_true (bytes_eq w name) (λ e.
-    let same : w ≡ name = same_text w name e in
-    let named : (is_among name base_names || not (first_is starts_word name)) ≡ true = rw same at of_base in
-    false≢true (rw (free, word) at named))
-
-pub unbound : (name : Text) (bs : List Binding) → list_all (λ b. is_of_base b.name) bs ≡ true → is_among name base_names ≡ false → first_is starts_word name ≡ true → (cs : List Binding)
+pub unbound : (name : Text) (bs : List Binding) → list_all (λ b. is_base_name b.name) bs ≡ true → is_base_name name ≡ false → (cs : List Binding)
     → role_in (find (λ b. bytes_eq b.home base_name && bytes_eq b.name name) (bs ++ cs)) ≡ role_in (find (λ b. bytes_eq b.home base_name && bytes_eq b.name name) cs)
-unbound name [] all free word cs = refl
-unbound name (b ∷ bs) all free word cs =
-    skipped (bytes_eq b.home base_name) (not_of_base name b.name free word (and_left (is_of_base b.name) _ all)) (unbound name bs (and_right (is_of_base b.name) _ all) free word cs)
+unbound name [] all free cs = refl
+unbound name (b ∷ bs) all free cs =
+    skipped (bytes_eq b.home base_name) (not_of_base name b.name free (and_left (is_base_name b.name) _ all)) (unbound name bs (and_right (is_base_name b.name) _ all) free cs)
   where
     skipped : (t : Bool) → bytes_eq b.name name ≡ false → role_in (find (λ c. bytes_eq c.home base_name && bytes_eq c.name name) (bs ++ cs)) ≡ role_in (find (λ c. bytes_eq c.home base_name && bytes_eq c.name name) cs)
         → role_in (cond (t && bytes_eq b.name name) (Some b) (find (λ c. bytes_eq c.home base_name && bytes_eq c.name name) (bs ++ cs))) ≡ role_in (find (λ c. bytes_eq c.home base_name && bytes_eq c.name name) cs)
@@ -163,6 +155,6 @@ pub own_unbound : (name : Text) (ds : List Definition) → role_in (find (λ b. 
 own_unbound name [] = refl
 own_unbound name (d ∷ ds) = own_unbound name ds
 
-pub not_in_base : (name : Text) (ds : List Definition) → is_among name base_names ≡ false → first_is starts_word name ≡ true → role_of (base_bindings ++ map binding_of ds) base_name name ≡ None
-unfolding base_names
-not_in_base name ds free word = unbound name base_bindings refl free word (map binding_of ds) ∙ own_unbound name ds
+pub not_in_base : (name : Text) (ds : List Definition) → is_base_name name ≡ false → role_of (base_bindings ++ map binding_of ds) base_name name ≡ None
+unfolding base_names is_among
+not_in_base name ds free = unbound name base_bindings refl free (map binding_of ds) ∙ own_unbound name ds

@@ -10,7 +10,8 @@ pub mod Runs
 pub mod Decimals
 pub mod Found
 pub mod Options
-pub mod Spelled
+pub mod Positioning
 pub mod Told
+pub mod Trees
 pub mod Driven
 pub mod Loop

@@ -5,10 +5,10 @@ use Rattle.std.specs.Str.{bytes_eq}
 use Rattle.std.proofs.lemmas.List.{append-nil, take-append-le}
 use Rattle.std.proofs.Math.Seq.{take-append-add}
 use Rattle.pj_meaning.specs.Tree.{Text}
-use Rattle.pj_parse.specs.Trees.{Formed, ExprFits}
-use Rattle.pj_parse.specs.declared.tree.Definition.{Definition}
-use Rattle.pj_parse.specs.declared.tree.Item.{Item}
-use Rattle.pj_parse.specs.declared.tree.Item.TheVariants.{Define, Show}
+use Rattle.pj_plain.specs.Trees.{Formed, ExprFits}
+use Rattle.pj_plain.specs.declared.tree.Definition.{Definition}
+use Rattle.pj_plain.specs.declared.tree.Item.{Item}
+use Rattle.pj_plain.specs.declared.tree.Item.TheVariants.{Define, Show}
 use Rattle.pj_top.specs.Claims.{Adds, AddsFront}
 use Rattle.pj_top.specs.Plain.{Counted, Printed, Performed, performed, performed_show, printed_by, prefixed, shown_by, then_print, line_of, definition_of, AllFit, ItemFits}
 use Rattle.pj_top.specs.Stops.{PutsText, GoesOn, EndsAs}

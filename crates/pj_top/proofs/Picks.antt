@@ -12,7 +12,7 @@ use Rattle.pj_meaning.specs.Names.{Id, id, base, base_name, main_name, same_id, 
 use Rattle.pj_meaning.specs.Types.{TypeRow}
 use Rattle.pj_meaning.specs.Methods.{Method, One, seen, is_applicable, applicable, pick, chosen_among}
 use Rattle.pj_meaning.specs.Base.{base_types, base_methods}
-use Rattle.pj_parse.specs.declared.tree.Definition.{Definition}
+use Rattle.pj_plain.specs.declared.tree.Definition.{Definition}
 use Rattle.pj_top.proofs.States.{methods_from, method_of}
 
 -- the methods of Base that this form calls

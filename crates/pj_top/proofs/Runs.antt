@@ -6,14 +6,13 @@ use Rattle.pj_meaning.specs.Tree.{Text}
 use Rattle.pj_meaning.specs.Values.{Value}
 use Rattle.pj_meaning.specs.Outcome.{Run, Outcome}
 use Rattle.pj_meaning.specs.Script.{Ending, AtEnd, OutOfSteps, Ended, ended, then_run, Uses, run_items, run_script}
-use Rattle.pj_parse.specs.Names.{is_among, special, base_names}
-use Rattle.pj_parse.specs.Lexical.{first_is, starts_word}
-use Rattle.pj_parse.specs.Trees.{Known, count_of, item_of, script_of, Formed}
-use Rattle.pj_parse.specs.declared.tree.Definition.{Definition}
-use Rattle.pj_parse.specs.declared.tree.Item.{Item}
-use Rattle.pj_parse.specs.declared.tree.Item.TheVariants.{Define, Show}
+use Rattle.pj_plain.specs.Trees.{Known, count_of, item_of, script_of, Formed}
+use Rattle.pj_plain.specs.declared.tree.Definition.{Definition}
+use Rattle.pj_plain.specs.declared.tree.Item.{Item}
+use Rattle.pj_plain.specs.declared.tree.Item.TheVariants.{Define, Show}
 use Rattle.pj_top.specs.Plain.{Counted, Printed, printed_by, shown, shown_by, definition_of, line_of, then_print}
-use Rattle.pj_top.proofs.Texts.{not_true, and_right}
+use Rattle.pj_top.proofs.Texts.{not_true, or_left}
+use Rattle.pj_words.specs.Words.{is_base_name}
 use Rattle.pj_top.proofs.States.{state_of, map-snoc}
 use Rattle.pj_top.proofs.Known.{Good, GoodDefinition, Good-snoc}
 use Rattle.pj_top.proofs.Entering.{run}
@@ -34,12 +33,6 @@ count_known name (d ∷ ds) = chosen (bytes_eq name d.name) (count_known name ds
         → cond t (Some (length d.parameters.items)) (count_of name (known_of ds)) ≡ option_map (λ (x : Definition). length x.parameters.items) (cond t (Some d) (definition_of name ds))
     chosen true rest = refl
     chosen false rest = rest
-
--- each name that is defined begins as a word
-abbrev pub Words : List Item → Type 0
-Words [] = Unit {0}
-Words (Define d ∷ items) = (first_is starts_word d.name ≡ true) × Words items
-Words (Show name zs ∷ items) = Words items
 
 pub none_found : (o : Option Definition) → option_map (λ (d : Definition). length d.parameters.items) o ≡ None → o ≡ None
 none_found None e = refl
@@ -67,32 +60,31 @@ line_runs uses items ds before (Some p) rest =
     let r = rest p.0 p.1 in
     record { ending = r.ending; printed = r.printed ∙ append_assoc before (line_of p.0) _ }
 
-pub runs : (uses : Uses) (items : List Item) (ds : List Definition) (before : Text) (left : ℕ) → Formed (known_of ds) items → Words items → Good ds
+pub runs : (uses : Uses) (items : List Item) (ds : List Definition) (before : Text) (left : ℕ) → Formed (known_of ds) items → Good ds
     → RunsAs (run_items uses (map item_of items) (run (state_of ds before) left)) before (printed_by ds items left)
 unfolding then_run ended then_print
-runs uses [] ds before left formed words good = record { ending = refl; printed = sym (append-nil before) }
-runs uses (Define d ∷ items) ds before left formed words good =
+runs uses [] ds before left formed good = record { ending = refl; printed = sym (append-nil before) }
+runs uses (Define d ∷ items) ds before left formed good =
     let fd = formed.0 in
     let fresh : definition_of d.name ds ≡ None = none_found (definition_of d.name ds) (sym (count_known d.name ds) ∙ fd.fresh) in
     let g : GoodDefinition d = record {
-      free = not_true (is_among d.name base_names) (and_right (not (is_among d.name special)) _ fd.free);
-      word = words.0;
+      free = or_left (is_base_name d.name) _ (not_true _ fd.free);
       different = fd.different;
       fits = fd.fits;
     } in
     let known = map-snoc known_as ds d in
-    let rest = runs uses items (ds ++ d ∷ []) before left (rw known formed.1) words.1 (Good-snoc ds d good g fresh) in
+    let rest = runs uses items (ds ++ d ∷ []) before left (rw known formed.1) (Good-snoc ds d good g fresh) in
     let P : Outcome Value → Type 0 = λ o. RunsAs (then_run (ended o) (run_items uses (map item_of items))) before (printed_by (ds ++ d ∷ []) items left) in
     subst P (sym (defines ds before good d g fresh left)) rest
-runs uses (Show name zs ∷ items) ds before left formed words good =
+runs uses (Show name zs ∷ items) ds before left formed good =
     let found = some_found (definition_of name ds) (length zs.items) (sym (count_known name ds) ∙ formed.0) in
     let d = found.0 in
     let outcome = shows ds before good name d found.1 zs.items found.2 left in
-    let rest = line_runs uses items ds before (shown d zs.items left) (λ z l. runs uses items ds (before ++ line_of z) l formed.1 words good) in
+    let rest = line_runs uses items ds before (shown d zs.items left) (λ z l. runs uses items ds (before ++ line_of z) l formed.1 good) in
     let Q : Option Definition → Type 0 = λ o. RunsAs (then_run (ended (printed_as ds before line_of (shown d zs.items left))) (run_items uses (map item_of items))) before (then_print (shown_by o zs.items left) (λ l. printed_by ds items l)) in
     let P : Outcome Value → Type 0 = λ o. RunsAs (then_run (ended o) (run_items uses (map item_of items))) before (then_print (shown_by (definition_of name ds) zs.items left) (λ l. printed_by ds items l)) in
     subst P (sym outcome) (subst Q (sym found.1) rest)
 
 -- a script from Base alone
-pub script_runs : (uses : Uses) (items : List Item) (steps : ℕ) → Formed [] items → Words items → RunsAs (run_script uses (map item_of items) steps) [] (printed_by [] items steps)
-script_runs uses items steps formed words = runs uses items [] [] steps formed words tt
+pub script_runs : (uses : Uses) (items : List Item) (steps : ℕ) → Formed [] items → RunsAs (run_script uses (map item_of items) steps) [] (printed_by [] items steps)
+script_runs uses items steps formed = runs uses items [] [] steps formed tt

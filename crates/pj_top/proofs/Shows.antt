@@ -17,9 +17,9 @@ use Rattle.pj_meaning.specs.Calls.{Enter, types_of, call_named, call_function}
 use Rattle.pj_meaning.specs.Evaluation.{Frame, Locals, expr, exprs, stmt, block, onward, flow_value, falls as falls_with, parameters, in_body, enter_at}
 use Rattle.pj_meaning.specs.Base.{base_types, base_bindings}
 use Rattle.pj_meaning.specs.Top.{top, top_frame}
-use Rattle.pj_parse.specs.Names.{base_names}
-use Rattle.pj_parse.specs.Trees.{literals, show_tree, expr_of}
-use Rattle.pj_parse.specs.declared.tree.Definition.{Definition}
+use Rattle.pj_words.specs.Words.{base_names, is_among}
+use Rattle.pj_plain.specs.Trees.{literals, show_tree, expr_of}
+use Rattle.pj_plain.specs.declared.tree.Definition.{Definition}
 use Rattle.pj_top.specs.Plain.{Counted, charge, with_number, number_of, shown, line_of, definition_of}
 use Rattle.pj_top.proofs.Texts.{same_text}
 use Rattle.pj_top.proofs.States.{state_of, method_of, binding_of}
@@ -132,7 +132,7 @@ module _ (ds : List Definition) (printed : Text) (good : Good ds) (name : Text) 
       ∙ ap (λ n. Ok (FunctionName (id main_name n))) (found_name name ds d found)
 
   println_role : role_at t main_name [] (codes "println") ≡ Ok (FunctionName (base (codes "println")))
-  unfolding base_names
+  unfolding base_names is_among
   println_role =
       ap (λ o. role_or (or_role o (role_of (base_bindings ++ map binding_of ds) base_name (codes "println"))) (Undefined main_name (codes "println")))
       (role_in_main (codes "println") ds ∙ ap (option_map (λ (x : Definition). FunctionName (id main_name x.name))) (not_base (codes "println") ds refl good))

@@ -7,8 +7,8 @@ use Rattle.pj_meaning.specs.Names.{Id, id, main_name, base_name, int_type}
 use Rattle.pj_meaning.specs.Methods.{Method}
 use Rattle.pj_meaning.specs.State.{State, Binding, Role, FunctionName}
 use Rattle.pj_meaning.specs.Base.{base_types, base_methods, base_bindings}
-use Rattle.pj_parse.specs.Trees.{expr_of}
-use Rattle.pj_parse.specs.declared.tree.Definition.{Definition}
+use Rattle.pj_plain.specs.Trees.{expr_of}
+use Rattle.pj_plain.specs.declared.tree.Definition.{Definition}
 
 abbrev pub int_types : List Text → List Id
 int_types [] = []

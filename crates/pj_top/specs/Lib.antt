@@ -1,3 +1,4 @@
+pub mod Positions
 pub mod Plain
 pub mod Statuses
 pub mod Commands

@@ -1,19 +1,19 @@
 -- What the evaluator of this form computes: numbers over the tree that was read, and the lines that are printed.
 -- It is no definition of meaning; `proofs/` shows that it is what direct evaluation gives.
 use Rattle.std.specs.Option.{ForSome}
-use Rattle.pj_parse.specs.Trees.{ExprFits}
+use Rattle.pj_plain.specs.Trees.{ExprFits}
 use Rattle.std.specs.Prelude.{◌≡◌, length, ℕ, zero, suc, ℤ, pos, List, [], ◌∷◌, ◌++◌, Option, Some, None, Bool, true, false, option_and_then, option_map, codes, find, slice_index_or}
 use Rattle.std.specs.Int.{w64, int_wrapping_add, int_wrapping_sub, int_wrapping_mul}
 use Rattle.std.specs.Fmt.{signed_decimal}
 use Rattle.std.specs.Str.{bytes_eq}
 use Rattle.pj_meaning.specs.Tree.{Text}
-use Rattle.pj_parse.specs.declared.tree.Operator.{Operator}
-use Rattle.pj_parse.specs.declared.tree.Operator.TheVariants.{Add, Subtract, Multiply}
-use Rattle.pj_parse.specs.declared.tree.Expr.{Expr}
-use Rattle.pj_parse.specs.declared.tree.Expr.TheVariants.{Literal, Parameter, Binary'}
-use Rattle.pj_parse.specs.declared.tree.Definition.{Definition}
-use Rattle.pj_parse.specs.declared.tree.Item.{Item}
-use Rattle.pj_parse.specs.declared.tree.Item.TheVariants.{Define, Show}
+use Rattle.pj_plain.specs.declared.tree.Operator.{Operator}
+use Rattle.pj_plain.specs.declared.tree.Operator.TheVariants.{Add, Subtract, Multiply}
+use Rattle.pj_plain.specs.declared.tree.Expr.{Expr}
+use Rattle.pj_plain.specs.declared.tree.Expr.TheVariants.{Literal, Parameter, Binary'}
+use Rattle.pj_plain.specs.declared.tree.Definition.{Definition}
+use Rattle.pj_plain.specs.declared.tree.Item.{Item}
+use Rattle.pj_plain.specs.declared.tree.Item.TheVariants.{Define, Show}
 
 -- a number with the charges that are left, or none where a charge found no budget
 abbrev pub Counted : Type 0

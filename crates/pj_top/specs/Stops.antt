@@ -3,9 +3,13 @@ use Rattle.std.specs.Prelude.{◌≡◌, ◌⊎◌, ℕ, ◌≤◌, Bool, true, 
 use Rattle.std.specs.declared.result.Result.TheVariants.{Ok, Err}
 use Rattle.pj_meaning.specs.Tree.{Text}
 use Rattle.pj_outside.specs.Faults.{Rose}
-use Rattle.pj_parse.specs.declared.tree.Item.{Item}
-use Rattle.pj_parse.specs.declared.tree.Definition.{Definition}
-use Rattle.pj_top.specs.Endings.{ScriptEnds, missing_line, too_long_line, syntax_line, depot_line}
+use Rattle.pj_plain.specs.declared.tree.Item.{Item}
+use Rattle.pj_plain.specs.declared.tree.Definition.{Definition}
+use Rattle.pj_tree.specs.declared.item.ScriptTree.{ScriptTree}
+use Rattle.pj_meaning.specs.Script.{AtEnd, OutOfSteps}
+use Rattle.pj_plain.specs.Held.{held_script}
+use Rattle.pj_plain.specs.Plain.{plain_items}
+use Rattle.pj_top.specs.Endings.{ending_of, printed_of, ScriptEnds, missing_line, too_long_line, syntax_line, unbuilt_line, depot_line}
 use Rattle.pj_top.specs.declared.status.Status.{Status}
 use Rattle.pj_top.specs.declared.status.Status.TheVariants as ends
 use Rattle.pj_top.specs.Plain.{Performed, Printed}
@@ -43,6 +47,7 @@ EndsAs p (Ok ending.AtEnd) = p.enough ≡ true
 EndsAs p (Ok ending.Steps) = p.enough ≡ false
 EndsAs p (Ok ending.Missing) = ⊥
 EndsAs p (Ok ending.TooLong) = ⊥
+EndsAs p (Ok (ending.Faulty m)) = ⊥
 EndsAs p (Ok ending.Unbuilt) = ⊥
 EndsAs p (Ok ending.DepotFailed) = ⊥
 EndsAs p (Err _) = Unit {0}
@@ -53,6 +58,7 @@ ending_status ending.AtEnd = ends.Ok
 ending_status ending.Steps = ends.Steps
 ending_status ending.Missing = ends.Missing
 ending_status ending.TooLong = ends.TooLong
+ending_status (ending.Faulty m) = ends.Syntax
 ending_status ending.Unbuilt = ends.Syntax
 ending_status ending.DepotFailed = ends.DepotFailed
 
@@ -62,7 +68,8 @@ status_line name ending.AtEnd = []
 status_line name ending.Steps = codes "steps\n"
 status_line name ending.Missing = missing_line name
 status_line name ending.TooLong = too_long_line name
-status_line name ending.Unbuilt = syntax_line name
+status_line name (ending.Faulty m) = syntax_line name m.at m.kind
+status_line name ending.Unbuilt = unbuilt_line name
 status_line name ending.DepotFailed = depot_line name
 
 -- What the run of a script leaves: after a depot's fault nothing was put; where it is stopped a front of the printed
@@ -79,6 +86,26 @@ abbrev pub Reaches : Text → Option Text → ℕ → Result Ending Stop → Typ
 Reaches name file steps (Ok ending.DepotFailed) = Unit {0}
 Reaches name file steps (Ok e) = (printed : Text) × ScriptEnds name file steps printed (status_line name e) (ending_status e)
 Reaches name file steps (Err _) = Unit {0}
+
+-- What the run of a tree leaves: where it is of the form that runs, what its direct evaluation prints and how that ends; and where it
+-- isn't, nothing was put.
+pub data TreeEnds (tree : ScriptTree) (steps : ℕ) : Text → Ending → Type 0 where
+  not_plain : plain_items [] (held_script tree) ≡ false → TreeEnds tree steps [] ending.Unbuilt
+  plain_end : plain_items [] (held_script tree) ≡ true → ending_of (held_script tree) steps ≡ AtEnd → TreeEnds tree steps (printed_of (held_script tree) steps) ending.AtEnd
+  plain_stop : plain_items [] (held_script tree) ≡ true → ending_of (held_script tree) steps ≡ OutOfSteps → TreeEnds tree steps (printed_of (held_script tree) steps) ending.Steps
+
+-- what a run that is stopped puts a front of
+abbrev pub tree_prints : Bool → Text → Text
+tree_prints true printed = printed
+tree_prints false printed = []
+
+abbrev pub RunsTree : ScriptTree → ℕ → Text → Result Ending Stop → Option Text → Type 0
+RunsTree tree steps old (Ok e) now = (printed : Text) × Adds old printed now × TreeEnds tree steps printed e
+RunsTree tree steps old (Err _) now = AddsFront old (tree_prints (plain_items [] (held_script tree)) (printed_of (held_script tree) steps)) now
+
+abbrev pub ReachesTree : ScriptTree → ℕ → Result Ending Stop → Type 0
+ReachesTree tree steps (Ok e) = (printed : Text) × TreeEnds tree steps printed e
+ReachesTree tree steps (Err _) = Unit {0}
 
 -- this holds where the depot failed
 abbrev pub IfDepotFailed : Result Ending Stop → Type 0 → Type 0

@@ -1,7 +1,9 @@
 //! The top call: all that the program does, from the words of its command line to its status.
 #![tactic(auto)]
 
+mod lines;
 mod number;
+pub mod position;
 mod session;
 mod status;
 mod stop;

@@ -1,11 +1,11 @@
 //! The evaluator of expressions.
 
 ghost use Rattle.std.specs.Prelude.{◌≡◌, length};
-ghost use Rattle.pj_parse.specs.Trees.{ExprFits};
+ghost use Rattle.pj_plain.specs.Trees.{ExprFits};
 ghost use Rattle.pj_top.specs.Plain.{applied, number_of};
 ghost use Rattle.pj_top.specs.Counting.{Counts, charged};
 
-use pj_parse::{Expr, Operator};
+use pj_plain::{Expr, Operator};
 
 /// What an operator gives, wrapping at 64 bits.
 fn apply(operator: Operator, left: i64, right: i64) -> i64

@@ -2,13 +2,13 @@
 
 ghost use Rattle.std.specs.Prelude.{◌≡◌, [], ◌∷◌, ◌++◌, None, OnOk, IfOk, length, map, option_map};
 ghost use Rattle.std.specs.Option.{ForSome, option_copied};
-ghost use Rattle.pj_parse.specs.Trees.{ExprFits};
+ghost use Rattle.pj_plain.specs.Trees.{ExprFits};
 ghost use Rattle.pj_top.specs.Plain.{definition_of, shown_by};
 ghost use Rattle.pj_top.specs.Counting.{Counts};
 
 use crate::number::{charge, number};
 use pj_base::{Names, NoMemory};
-use pj_parse::Definition;
+use pj_plain::Definition;
 use std::alloc::Global;
 
 /// The functions that a script has defined so far, in their order, and found by their names.

@@ -4,20 +4,23 @@ ghost use Rattle.std.specs.Prelude.{◌≡◌, ◌⊎◌, ◌≤◌, ℕ, Option
 ghost use Rattle.pj_meaning.specs.Tree.{Text};
 ghost use Rattle.pj_outside.specs.Faults.{Rose};
 ghost use Rattle.pj_outside.specs.Stored.{Keeps};
-ghost use Rattle.pj_parse.specs.Trees.{Formed, ExprFits};
+ghost use Rattle.pj_plain.specs.Trees.{Formed, ExprFits};
 ghost use Rattle.pj_top.specs.Claims.{Runs, Begins, Reached, TellsUsage, FaultCause, OneEnding, IsBuilt};
-ghost use Rattle.pj_top.specs.Endings.{file_line};
 ghost use Rattle.std.specs.Option.{ForSome};
 ghost use Rattle.pj_top.specs.Plain.{ItemFits, performed, performed_show, shown_by, definition_of, printed_by, line_of};
-ghost use Rattle.pj_top.specs.Stops.{SinkCause, PutsText, GoesOn, EndsAs, RunsTo, Reaches, IfDepotFailedAdds, DepotCause, status_line, ending_status, Finishes, Concludes};
+ghost use Rattle.pj_top.specs.Stops.{SinkCause, PutsText, GoesOn, EndsAs, RunsTo, Reaches, IfDepotFailedAdds, DepotCause, ending_status, Finishes, Concludes, ReachesTree, RunsTree};
 
 use crate::session::Session;
 use crate::status::Status;
-use crate::stop::{Ending, Stop};
+use crate::lines::status_line;
+use crate::position::position_at;
+use crate::stop::{Ending, Mistake, Stop};
 use crate::words::run_words;
-use pj_base::{ByteList, NoMemory};
+use pj_base::NoMemory;
 use pj_outside::{Depot, ReadAnswer, Sink};
-use pj_parse::{Item, ScriptTree, SyntaxFault, script};
+use pj_parse::{SyntaxFault, script};
+use pj_plain::{Item, Script, plain_script};
+use pj_tree::ScriptTree;
 use std::alloc::Global;
 use std::thread::Threads;
 
@@ -107,7 +110,7 @@ fn perform<S: Sink>(
 /// Evaluates a script's items in order with one budget over all of them.
 fn evaluate<S: Sink>(
     alloc: Global,
-    tree: ScriptTree,
+    tree: Script,
     steps: u64,
     out: &mut S,
 ) -> Result<Ending, Stop>
@@ -118,7 +121,7 @@ fn evaluate<S: Sink>(
 {
     let mut session = Session::new(alloc);
     let mut left = steps;
-    let ScriptTree { items } = tree;
+    let Script { items } = tree;
     for item in items {
         match perform(alloc, &mut session, item, &mut left, out) {
             Ok(goes_on) => {
@@ -130,6 +133,24 @@ fn evaluate<S: Sink>(
         }
     }
     Ok(Ending::AtEnd)
+}
+
+/// Runs a script, where it is of the form that runs today.
+fn run_tree<S: Sink>(
+    alloc: Global,
+    tree: &ScriptTree,
+    steps: u64,
+    out: &mut S,
+) -> Result<Ending, Stop>
+    ensures told { IfSome (S.written out.old) (λ old. RunsTree tree.now steps old result (S.written out.new)) }
+    ensures ends { ReachesTree tree.now steps result }
+    ensures cause { SinkCause (S.faults out.old) (S.faults out.new) result }
+{
+    match plain_script(alloc, tree) {
+        Ok(Some(plain)) => evaluate(alloc, plain, steps, out),
+        Ok(None) => Ok(Ending::Unbuilt),
+        Err(NoMemory) => Err(Stop::NoMemory),
+    }
 }
 
 /// Reads a script and runs it. No file changes.
@@ -154,35 +175,14 @@ fn run<D: Depot, S: Sink>(
         ReadAnswer::Failed => return Ok(Ending::DepotFailed),
         ReadAnswer::NoMemory => return Err(Stop::NoMemory),
     };
-    match script(alloc, &bytes) {
-        Ok(tree) => evaluate(alloc, tree, steps, out),
-        Err(SyntaxFault::Syntax { .. }) => Ok(Ending::Unbuilt),
+    let text: &[u8] = &bytes;
+    match script(alloc, text) {
+        Ok(tree) => run_tree(alloc, &tree, steps, out),
+        Err(SyntaxFault::Syntax { place, kind }) => {
+            let at = position_at(text, place);
+            Ok(Ending::Faulty(Mistake { at, kind }))
+        }
         Err(SyntaxFault::NoMemory) => Err(Stop::NoMemory),
-    }
-}
-
-/// The text before a file's name, the name, and the text behind it.
-fn file_line(alloc: Global, before: &str, file: &str, behind: &str) -> Result<ByteList, NoMemory>
-    ensures { IfOk result (λ line. line ≡ file_line before.now file.now behind.now) }
-{
-    let mut line = ByteList::new(alloc);
-    line.extend(before.as_bytes())?;
-    line.extend(file.as_bytes())?;
-    line.extend(behind.as_bytes())?;
-    Ok(line)
-}
-
-/// The line of an ending, which is empty at the text's end.
-fn status_line(alloc: Global, name: &str, ending: Ending) -> Result<ByteList, NoMemory>
-    ensures { IfOk result (λ line. line ≡ status_line name.now ending) }
-{
-    match ending {
-        Ending::AtEnd => Ok(ByteList::new(alloc)),
-        Ending::Steps => file_line(alloc, "steps\n", "", ""),
-        Ending::Missing => file_line(alloc, "missing ", name, "\n"),
-        Ending::TooLong => file_line(alloc, "too long ", name, "\n"),
-        Ending::Unbuilt => file_line(alloc, "syntax ", name, " 1:1 Unbuilt\n"),
-        Ending::DepotFailed => file_line(alloc, "depot failed ", name, "\n"),
     }
 }
 
@@ -195,6 +195,7 @@ fn ending_status(ending: Ending) -> Status
         Ending::Steps => Status::Steps,
         Ending::Missing => Status::Missing,
         Ending::TooLong => Status::TooLong,
+        Ending::Faulty(_) => Status::Syntax,
         Ending::Unbuilt => Status::Syntax,
         Ending::DepotFailed => Status::DepotFailed,
     }

@@ -1,23 +1,13 @@
-use Rattle.std.proofs.Common.{[], refl, subst, sym, ◌∙◌}
-use Rattle.pj_parse.specs.Lines.{lines}
-use Rattle.pj_parse.specs.Reading.{items_at}
-use Rattle.pj_parse.specs.Reads.{Refuses}
-use Rattle.pj_parse.proofs.TextComplete.{lines_read}
-use Rattle.pj_parse.proofs.TextSound.{lines_stand}
+use Rattle.std.proofs.Common.{◌≡◌, ◌∙◌, sym}
+use Rattle.std.proofs.lemmas.Result.{err_from_is_err_and}
+use Rattle.pj_text.proofs.Scripts.{one-script}
+use Rattle.pj_parse.proofs.Readings.{no-script}
 use Rattle.pj_parse.proofs.script.Goals as goal
 
-pub returns-in-Ok-clause-tree : goal.returns-in-Ok-clause-tree
-returns-in-Ok-clause-tree c = lines_stand (lines c.args.bytes.now) [] _ c.in-Ok.ensures.reads
+pub returns-in_err-syntax-clause-refused : goal.returns-in_err-syntax-clause-refused
+returns-in_err-syntax-clause-refused c =
+    let p = err_from_is_err_and c.from_residual.result c.from_residual.ensures.1 in
+    rw (p.1, p.2) (no-script c.in_err-syntax.field-0.0 c.in_err-syntax.ensures.fault)
 
-pub returns-in-Ok-clause-only : goal.returns-in-Ok-clause-only
-returns-in-Ok-clause-only c = λ items stands. let both = sym (lines_read stands tt) ∙ c.in-Ok.ensures.reads in cc both
-
-pub returns-in-Err-NotOfForm-clause-refused : goal.returns-in-Err-NotOfForm-clause-refused
-returns-in-Err-NotOfForm-clause-refused c = record {
-  whole = refl;
-  unbuilt = refl;
-  none = λ items stands.
-      let read = items_at [] (lines c.args.bytes.now) in
-      let refused = subst (λ e. Refuses e read) c.in-Err-NotOfForm.field-0-is c.in-Err-NotOfForm.ensures.reads in
-      let both = sym (lines_read stands tt) ∙ refused in absurd (cc both);
-}
+pub returns-clause-only : goal.returns-clause-only
+returns-clause-only c = λ other h. one-script h (c.in_ok-syntax.syntax, c.in_ok-syntax.ensures.syntax, sym c.in_ok-resolved_script.ensures)
