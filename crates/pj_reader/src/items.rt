@@ -17,7 +17,13 @@ use sqlite_items::Items;
 use std::alloc::Global;
 
 /// The end of `using` in a script.
-fn end_script_uses(alloc: Global, names: SpotList, entries: Entries, mut stack: Stack, kind: TokenKind) -> Answer
+fn end_script_uses(
+    alloc: Global,
+    names: SpotList,
+    entries: Entries,
+    mut stack: Stack,
+    kind: TokenKind,
+) -> Answer
     ensures { IfOk result (λ r. r ≡ end_uses names (Frame.Items Root.Script entries ∷ stack) kind) }
 {
     stack.push(Frame::Items(Root::Script, entries))?;
@@ -39,14 +45,25 @@ fn end_package_uses(
     match kind {
         TokenKind::Separator => {
             uses.append(names)?;
-            over(Mode::Line, Frame::Items(Root::Package(x, uses), entries), stack)
+            over(
+                Mode::Line,
+                Frame::Items(Root::Package(x, uses), entries),
+                stack,
+            )
         }
         _ => Ok(None),
     }
 }
 
 /// The end of `using` in a text.
-fn end_uses_in(alloc: Global, names: SpotList, root: Root, entries: Entries, stack: Stack, kind: TokenKind) -> Answer
+fn end_uses_in(
+    alloc: Global,
+    names: SpotList,
+    root: Root,
+    entries: Entries,
+    stack: Stack,
+    kind: TokenKind,
+) -> Answer
     ensures { IfOk result (λ r. r ≡ end_uses names (Frame.Items root entries ∷ stack) kind) }
 {
     match root {
@@ -140,7 +157,11 @@ pub fn package_named(alloc: Global, x: Spot, kind: TokenKind) -> Answer
     match kind {
         TokenKind::Separator => {
             let root = Root::Package(x, Items::new(alloc));
-            over(Mode::Line, Frame::Items(root, no_entries(alloc)), Stack::new(alloc))
+            over(
+                Mode::Line,
+                Frame::Items(root, no_entries(alloc)),
+                Stack::new(alloc),
+            )
         }
         _ => Ok(None),
     }
