@@ -9,12 +9,18 @@ pub enum TextKind {
     Package,
 }
 
-/// Why no text was read: its grammar has none that begins with the tokens up to this number, or only such that nest deeper than a
-/// text may, or memory ran out. Where all tokens were read and no text has ended, the number is how many there are.
+/// Why tokens are no text. A token is told by its number, from 0 on, and by the byte at which it begins.
 #[derive(Clone, Copy, Debug, PartialEq, Eq)]
 pub enum ReadFault {
-    Grammar(usize),
-    Deep(usize),
+    /// No text of the grammar begins with the tokens up to and with this one, and some begin with those before it.
+    Grammar { token: usize, place: usize },
+    /// Texts begin so, but all of them nest deeper than a text may.
+    Deep { token: usize, place: usize },
+    /// The same, where the token is the one behind the text: it ends too early.
+    Early { token: usize, place: usize },
+    /// All tokens were read, and none of them ends a text.
+    Endless,
+    /// Memory ran out.
     NoMemory,
 }
 

@@ -7,25 +7,25 @@ ghost use Rattle.pj_grammar.specs.Statements.{begins_bounds};
 ghost use Rattle.pj_grammar.specs.Tokens.{spot};
 ghost use Rattle.pj_frames.specs.Places.{place_of};
 
-use pj_operands::begin::{
-    argument, base_operator, field_name, member_name, operand, parameter, path_start, short_assign,
-    types,
-};
-use pj_ends::ends::{after_line, closed_line};
-use pj_operands::have::have;
 use crate::items::{
     after_declared, after_use, directive_end, header, package_end, package_named, package_start,
 };
 use crate::lines::{after_return, eval_name_then, global_assign, line, payload};
+use pj_base::{NoMemory, Text};
+use pj_ends::ends::{after_line, closed_line};
 use pj_ends::params::start_field;
 use pj_frames::place::Place;
 use pj_frames::reading::{Answer, Reading, at, guarded_over, over, parts};
 use pj_frames::stack::Stack;
-use pj_base::{NoMemory, Text};
 use pj_grammar::{Frame, Header, Line, Mode, Purpose};
 use pj_lex::{Sign, Token, TokenKind};
 use pj_making::modules::ModuleNames;
 use pj_making::tokens::begins_bounds;
+use pj_operands::begin::{
+    argument, base_operator, field_name, member_name, operand, parameter, path_start, short_assign,
+    types,
+};
+use pj_operands::have::have;
 use pj_syntax::{Path, Spot, SpotList};
 use sqlite_items::Items;
 use std::alloc::Global;

@@ -1,16 +1,16 @@
 //! The reader of texts.
-ghost use Rattle.std.specs.Prelude.{◌≡◌, ◌≤◌, ◌<◌, IfErr, IfOk, Some, length, reverse};
+ghost use Rattle.std.specs.Prelude.{◌≡◌, ◌∷◌, [], IfErr, IfOk, Some, None, reverse};
 ghost use Rattle.pj_grammar.specs.Machine.{accepted, read_frames, start};
-ghost use Rattle.pj_reader.specs.Read.{GoesOn, IsFault, IsNextFault, IsRead, Progress, kind_of};
+ghost use Rattle.pj_reader.specs.Read.{Accepts, GoesOn, IsFault, IsNextFault, Progress, deep_fault, ends_text, is_accepted, kind_of};
 
 use crate::fault::{ReadFault, TextKind};
 use crate::machine::step;
+use pj_base::NoMemory;
 use pj_frames::need::need;
 use pj_frames::reading::{Reading, parts, reading_at};
-use pj_frames::stack::Stack;
-use pj_base::NoMemory;
+use pj_frames::stack::{Stack, split_top};
 use pj_grammar::{Entries, Frame, Mode, Parsed, Root};
-use pj_lex::{Token, TokenList};
+use pj_lex::{Token, TokenKind, TokenList};
 use pj_making::items::no_entries;
 use pj_making::modules::ModuleNames;
 use pj_syntax::{Package, Script};
@@ -34,7 +34,25 @@ fn started(alloc: Global, kind: TextKind) -> Result<Reading, NoMemory>
     }
 }
 
-/// One token more.
+/// Whether a token is the one behind a text.
+fn ends_text(kind: &TokenKind) -> bool
+    ensures { result ≡ ends_text kind.now }
+{
+    matches!(kind, TokenKind::Eof)
+}
+
+/// The fault at a token that makes a text nest too deep.
+fn deep_fault(last: bool, token: usize, place: usize) -> ReadFault
+    ensures { result ≡ deep_fault last token place }
+{
+    if last {
+        ReadFault::Early { token, place }
+    } else {
+        ReadFault::Deep { token, place }
+    }
+}
+
+/// One token more, which has this number.
 fn next(
     alloc: Global,
     modules: &ModuleNames,
@@ -45,15 +63,20 @@ fn next(
     ensures ok { IfOk result (GoesOn modules.now reading token) }
     ensures err { IfErr result (IsNextFault modules.now reading token number) }
 {
+    let place = token.start;
+    let last = ends_text(&token.what);
     match step(alloc, modules, reading, token)? {
         Some(next) => {
             if need(&next) <= LIMIT {
                 Ok(next)
             } else {
-                Err(ReadFault::Deep(number))
+                Err(deep_fault(last, number, place))
             }
         }
-        None => Err(ReadFault::Grammar(number)),
+        None => Err(ReadFault::Grammar {
+            token: number,
+            place,
+        }),
     }
 }
 
@@ -79,9 +102,9 @@ fn read_all(
     ensures ok { IfOk result (Progress modules.now (kind_of kind) tokens []) }
     ensures err { IfErr result (IsFault modules.now (kind_of kind) tokens) }
 {
+    let total = tokens.len();
     let mut reading = started(alloc, kind)?;
     let mut rest = reversed(alloc, tokens)?;
-    let total = rest.len();
     while let Some(token) = rest.pop() {
         let number = total - 1 - rest.len();
         reading = next(alloc, modules, reading, token, number)?;
@@ -107,29 +130,40 @@ fn tree_of(root: Root, entries: Entries) -> (Parsed, usize)
     }
 }
 
-/// The tree of a stack that holds a whole text and nothing else.
-fn read_frames(mut stack: Stack) -> Option<(Parsed, usize)>
-    ensures { result ≡ read_frames stack }
-{
-    let frame = stack.pop()?;
-    let rest = stack.pop().is_none();
-    match frame {
-        Frame::Items(root, entries) => {
-            if rest {
-                Some(tree_of(root, entries))
-            } else {
-                None
-            }
-        }
-        other => no_tree(other),
-    }
-}
-
 /// No tree, where a frame holds no text.
 fn no_tree(_frame: Frame) -> Option<(Parsed, usize)>
     ensures { result ≡ None }
 {
     None
+}
+
+/// The tree of a frame that stands alone.
+fn read_frame(frame: Frame) -> Option<(Parsed, usize)>
+    ensures { result ≡ read_frames (frame ∷ []) }
+{
+    match frame {
+        Frame::Items(root, entries) => Some(tree_of(root, entries)),
+        other => no_tree(other),
+    }
+}
+
+/// The tree of a stack that holds a whole text and nothing else.
+#[tactic(auto, using(crate::proofs::Progress::two_frames))]
+fn read_frames(mut stack: Stack) -> Option<(Parsed, usize)>
+    ensures { result ≡ read_frames stack }
+{
+    let frame = stack.pop()?;
+    match split_top(stack.layers()) {
+        None => read_frame(frame),
+        Some(_) => no_tree(frame),
+    }
+}
+
+/// Whether a text has ended.
+fn is_accepted(mode: &Mode) -> bool
+    ensures { result ≡ is_accepted mode.now }
+{
+    matches!(mode, Mode::Accepted)
 }
 
 /// The tree of a text that was read whole, and how deep it nests.
@@ -144,13 +178,6 @@ fn accepted(reading: Reading) -> Option<(Parsed, usize)>
     }
 }
 
-/// Whether a text has ended.
-fn is_accepted(mode: &Mode) -> bool
-    ensures { result ≡ ends_text mode.now }
-{
-    matches!(mode, Mode::Accepted)
-}
-
 /// Reads the tokens of a text. The tree is the one with which the grammar's machine accepts them. A fault is at the first token to
 /// which the machine has no answer, or none that needs no more than a text may nest.
 pub fn read(
@@ -159,13 +186,12 @@ pub fn read(
     kind: TextKind,
     tokens: TokenList,
 ) -> Result<Parsed, ReadFault>
-    ensures read { IfOk result (IsRead modules.now (kind_of kind) tokens) }
+    ensures read { IfOk result (Accepts modules.now (kind_of kind) tokens) }
     ensures fault { IfErr result (IsFault modules.now (kind_of kind) tokens) }
 {
-    let count = tokens.len();
     let last = read_all(alloc, modules, kind, tokens)?;
     match accepted(last) {
         Some((tree, _)) => Ok(tree),
-        None => Err(ReadFault::Grammar(count)),
+        None => Err(ReadFault::Endless),
     }
 }
