@@ -1,5 +1,5 @@
 -- What ends on top of what asks to evaluate it, and elsewhere.
-use Rattle.std.proofs.Common.{◌≡◌, true, false, List, [], ◌∷◌, Option, refl, absurd}
+use Rattle.std.proofs.Common.{◌≡◌, true, false, List, [], ◌∷◌, Option, refl}
 use Rattle.pj_syntax.specs.declared.expression.Spot.{Spot}
 use Rattle.pj_grammar.specs.declared.frame.Frame.{Frame}
 use Rattle.pj_grammar.specs.declared.frame.Frame.TheVariants as frames

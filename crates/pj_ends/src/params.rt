@@ -2,11 +2,11 @@
 ghost use Rattle.std.specs.Prelude.{◌≡◌, ◌∷◌, IfOk};
 ghost use Rattle.pj_grammar.specs.Operands.{add_param, after_field, after_function, after_header, after_param, after_path, after_type, end_fields, end_params, start_field};
 
-use crate::ends::closed_entry;
+use crate::lines::closed_entry;
+use pj_base::NoMemory;
 use pj_frames::reading::{Answer, Reading, at, guarded, let_go, over};
 use pj_frames::stack::Stack;
 use pj_frames::view::takes_items;
-use pj_base::NoMemory;
 use pj_grammar::{Form, Frame, Head, Header, Mode, Opener};
 use pj_lex::{Sign, TokenKind};
 use pj_making::items::{abstract_of, declared, struct_of};

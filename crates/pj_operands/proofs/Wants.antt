@@ -1,5 +1,5 @@
 -- How a reader goes on from an operand, by what the frame on top takes.
-use Rattle.std.proofs.Common.{◌≡◌, ℕ, List, ◌∷◌, refl, absurd}
+use Rattle.std.proofs.Common.{◌≡◌, ℕ, List, ◌∷◌, refl}
 use Rattle.pj_lex.specs.declared.token.TokenKind.{TokenKind}
 use Rattle.pj_grammar.specs.declared.frame.Frame.{Frame}
 use Rattle.pj_grammar.specs.declared.frame.Frame.TheVariants as frames
@@ -7,7 +7,6 @@ use Rattle.pj_grammar.specs.declared.frame.Purpose.TheVariants as purposes
 use Rattle.pj_grammar.specs.declared.mode.Head.{Head}
 use Rattle.pj_grammar.specs.Frames.{head_path}
 use Rattle.pj_grammar.specs.Operands.{add_name, after_function, have_first, have_other, have_path, have_value}
-use Rattle.pj_operands.specs.declared.finishing.Wanted.{Wanted}
 use Rattle.pj_operands.specs.declared.finishing.Wanted.TheVariants as wants
 use Rattle.pj_operands.specs.Wants.{wanted_of}
 
@@ -55,4 +54,4 @@ value h (frames.Hole purposes.Value) k p t e = absurd (cc)
 value h (frames.Hole o) k p t e = refl
 value h _ k p t e = refl
 
-pub ruleset wants = (declared, param, path, first, value)
+pub ruleset by_wanted = (declared, param, path, first, value)

@@ -6,7 +6,9 @@ ghost use Rattle.pj_grammar.specs.Operands.{add_name, after_purpose, begin_type,
 ghost use Rattle.pj_operands.specs.Wants.{wanted_of};
 
 use crate::calls::{after_argument, after_group};
-use pj_ends::ends::{after_end, closed_entry, closed_line, closed_method, closed_set, closed_value};
+use pj_ends::ends::after_end;
+use pj_ends::evaluated::{closed_method, closed_set, closed_value};
+use pj_ends::lines::{closed_entry, closed_line};
 use pj_ends::params::{add_param, after_function, after_path};
 use pj_frames::reading::{Answer, Reading, at, guarded, let_go, over};
 use pj_frames::settling::{Operand, settle};
@@ -52,14 +54,7 @@ fn after_while(alloc: Global, e: Node, stack: Stack, kind: &TokenKind) -> Answer
 }
 
 /// The second bound of a loop ends.
-fn after_to(
-    alloc: Global,
-    x: Spot,
-    from: Node,
-    e: Node,
-    stack: Stack,
-    kind: &TokenKind,
-) -> Answer
+fn after_to(alloc: Global, x: Spot, from: Node, e: Node, stack: Stack, kind: &TokenKind) -> Answer
     ensures { IfOk result (λ r. r ≡ after_purpose (Purpose.To x from) e stack kind.now) }
 {
     match kind {
@@ -136,42 +131,20 @@ fn after_short(
     after_end(alloc, closed, kind)
 }
 
-/// What follows an expression that a block or a constant begins with, and none of the other purposes.
-fn after_opener(
-    alloc: Global,
-    purpose: Purpose,
-    e: Node,
-    stack: Stack,
-    kind: &TokenKind,
-) -> Answer
-    ensures { IfOk result (λ r. r ≡ after_purpose purpose e stack kind.now) }
-{
-    match purpose {
-        Purpose::If => after_if(alloc, e, stack, kind),
-        Purpose::While => after_while(alloc, e, stack, kind),
-        Purpose::From(x) => after_from(x, e, stack, kind),
-        Purpose::To(x, from) => after_to(alloc, x, from, e, stack, kind),
-        Purpose::Const(x) => after_const(alloc, x, e, stack, kind),
-        other => spent(other),
-    }
-}
-
 /// What follows the expression of a statement or an item.
-fn after_purpose(
-    alloc: Global,
-    purpose: Purpose,
-    e: Node,
-    stack: Stack,
-    kind: &TokenKind,
-) -> Answer
+fn after_purpose(alloc: Global, purpose: Purpose, e: Node, stack: Stack, kind: &TokenKind) -> Answer
     ensures { IfOk result (λ r. r ≡ after_purpose purpose e stack kind.now) }
 {
     match purpose {
         Purpose::Value => after_value(alloc, e, stack, kind),
         Purpose::Assign(target, operator) => after_set(alloc, target, operator, e, stack, kind),
         Purpose::Return(word) => after_returned(alloc, word, e, stack, kind),
+        Purpose::If => after_if(alloc, e, stack, kind),
+        Purpose::While => after_while(alloc, e, stack, kind),
+        Purpose::From(x) => after_from(x, e, stack, kind),
+        Purpose::To(x, from) => after_to(alloc, x, from, e, stack, kind),
+        Purpose::Const(x) => after_const(alloc, x, e, stack, kind),
         Purpose::Short(f, params) => after_short(alloc, f, params, e, stack, kind),
-        other => after_opener(alloc, other, e, stack, kind),
     }
 }
 
@@ -337,7 +310,7 @@ fn wanted_by(frame: &Frame) -> Wanted
 }
 
 /// What follows an operand over a frame.
-#[tactic(auto, using(crate::proofs::Wants::wants))]
+#[tactic(auto, using(crate::proofs::Wants::by_wanted))]
 fn have_over(
     alloc: Global,
     head: Head,

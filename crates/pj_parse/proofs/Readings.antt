@@ -1,5 +1,6 @@
 -- From the tokens of a text, the machine's answer and the rules of scopes to what the text is, or what is wrong with it.
-use Rattle.std.proofs.Common.{◌≡◌, ℕ, ◌≤◌, ◌∷◌, List, Option, Some, None, refl, sym, ap, subst, ◌∙◌, arith, append_assoc, absurd, Bool, true, false, [], ◌++◌, Result, Ok, Err, IfOk, IfErr}
+use Rattle.std.proofs.Common.{◌≡◌, ℕ, ◌≤◌, ◌∷◌, List, Option, Some, None, refl, sym, ap, subst, ◌∙◌, arith, append_assoc, Bool, true, false, [], ◌++◌, Result, Ok, Err, IfOk, IfErr}
+use Rattle.std.proofs.lemmas.Option.{none-some}
 use Rattle.pj_lex.specs.declared.fault.SyntaxFault.{SyntaxFault}
 use Rattle.pj_lex.specs.declared.fault.SyntaxFault.TheVariants.{Syntax, NoMemory}
 use Rattle.pj_lex.specs.declared.fault.SyntaxKind.{SyntaxKind}
@@ -123,7 +124,7 @@ module _ (kind : Kind) (own bytes : List ℕ) (ts : List Token) (spelled : IsTok
   has-end d =
       let (front, t, is, end) = ended spelled.1 in
       let found = ends-accepted (others own ts) kind front t d.state end (ap (reached (modules_of own ts) kind) (sym is) ∙ d.reaches) in
-      none≢some (sym d.open_yet ∙ found.1)
+      none-some found.0 (sym d.open_yet ∙ found.1)
 
   by-fault : (f : ReadFault) → read.IsFault (modules_of own ts) kind ts f → Refuses kind own bytes (told f)
   by-fault (unread.Grammar i place) h =

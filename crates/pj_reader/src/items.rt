@@ -3,7 +3,8 @@ ghost use Rattle.std.specs.Prelude.{◌≡◌, ◌∷◌, IfOk};
 ghost use Rattle.pj_grammar.specs.Machine.{after_declared, after_use, directive_end, end_uses, header, package_end, package_named, package_start};
 ghost use Rattle.pj_frames.specs.Places.{place_of};
 
-use pj_ends::ends::{after_end, closed_entry};
+use pj_ends::ends::after_end;
+use pj_ends::lines::closed_entry;
 use pj_ends::params::after_header;
 use pj_frames::place::Place;
 use pj_frames::reading::{Answer, Reading, at, let_go, over};

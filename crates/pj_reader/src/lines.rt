@@ -8,7 +8,8 @@ ghost use Rattle.pj_frames.specs.Places.{place_of};
 ghost use Rattle.pj_reader.specs.Words.{begins_line};
 
 use pj_base::{NoMemory, Text};
-use pj_ends::ends::{after_end, closed_line, ending};
+use pj_ends::ends::{after_end, ending};
+use pj_ends::lines::closed_line;
 use pj_frames::place::Place;
 use pj_frames::reading::{Answer, Reading, at, guarded, guarded_over, over};
 use pj_frames::stack::Stack;

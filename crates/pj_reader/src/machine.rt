@@ -12,7 +12,8 @@ use crate::items::{
 };
 use crate::lines::{after_return, eval_name_then, global_assign, line, payload};
 use pj_base::{NoMemory, Text};
-use pj_ends::ends::{after_line, closed_line};
+use pj_ends::ends::after_line;
+use pj_ends::lines::closed_line;
 use pj_ends::params::start_field;
 use pj_frames::place::Place;
 use pj_frames::reading::{Answer, Reading, at, guarded_over, over, parts};

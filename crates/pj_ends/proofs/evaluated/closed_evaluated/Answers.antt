@@ -3,7 +3,7 @@ use Rattle.pj_grammar.specs.declared.frame.Frame.{Frame}
 use Rattle.pj_grammar.specs.declared.frame.Frame.TheVariants as frames
 use Rattle.pj_grammar.specs.Closing.{closed_evaluated}
 use Rattle.pj_ends.proofs.Moving.{moved}
-use Rattle.pj_ends.proofs.ends.closed_evaluated.Goals as goal
+use Rattle.pj_ends.proofs.evaluated.closed_evaluated.Goals as goal
 
 pub returns-in-Payload : goal.returns-in-Payload
 returns-in-Payload c =

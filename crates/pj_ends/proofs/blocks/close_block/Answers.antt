@@ -3,7 +3,7 @@ use Rattle.pj_grammar.specs.declared.frame.Frame.{Frame}
 use Rattle.pj_grammar.specs.declared.frame.Frame.TheVariants as frames
 use Rattle.pj_grammar.specs.Closing.{close_block}
 use Rattle.pj_ends.proofs.Moving.{moved}
-use Rattle.pj_ends.proofs.ends.close_block.Goals as goal
+use Rattle.pj_ends.proofs.blocks.close_block.Goals as goal
 
 pub returns-in-Block : goal.returns-in-Block
 returns-in-Block c =

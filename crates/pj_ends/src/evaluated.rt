@@ -1,0 +1,164 @@
+//! What ends on top of what asks to evaluate it, and elsewhere.
+ghost use Rattle.std.specs.Prelude.{◌≡◌, ◌∷◌, ◌+◌, ◌≤◌, IfOk, OnOk};
+ghost use Rattle.pj_grammar.specs.Closing.{closed_evaluated, closed_line, closed_method, closed_set, closed_value};
+ghost use Rattle.pj_grammar.specs.Makers.{assign_of, eval_of, set_evaluated};
+ghost use Rattle.pj_grammar.specs.Need.{holder_nesting};
+ghost use Rattle.pj_making.specs.Bounds.{most_nesting};
+
+use crate::lines::{closed_entry, closed_line};
+use pj_base::NoMemory;
+use pj_frames::reading::{Answer, at, let_go};
+use pj_frames::stack::Stack;
+use pj_frames::view::on_payload;
+use pj_grammar::{Frame, Line, Mode, Node, Operator, Target};
+use pj_making::assignments::assign_of;
+use pj_making::bounds::small;
+use pj_making::definitions::{
+    Evaluated, Method, eval_of, method_evaluated, set_evaluated, value_evaluated,
+};
+use pj_making::items::method_defined;
+use pj_making::statements::value_of;
+use pj_syntax::Spot;
+use std::alloc::Global;
+
+/// `@eval` of what is evaluated.
+fn eval_line(alloc: Global, owner: Option<Spot>, y: Evaluated) -> Result<Line, NoMemory>
+    ensures { IfOk result (λ made. made ≡ eval_of owner y) }
+{
+    small(y.nesting())?;
+    eval_of(alloc, owner, y)
+}
+
+/// What is evaluated ends.
+fn evaluated_in(
+    alloc: Global,
+    owner: Option<Spot>,
+    quoted: bool,
+    y: Evaluated,
+    stack: Stack,
+) -> Answer
+    ensures { IfOk result (λ r. r ≡ closed_evaluated y (Frame.Payload owner quoted ∷ stack)) }
+{
+    let line = eval_line(alloc, owner, y)?;
+    if quoted {
+        Ok(at(Mode::PayloadEnd(line), stack))
+    } else {
+        closed_line(alloc, line, stack)
+    }
+}
+
+/// What is evaluated ends, on top of what asks for it.
+pub fn closed_evaluated(alloc: Global, y: Evaluated, mut stack: Stack) -> Answer
+    ensures { IfOk result (λ r. r ≡ closed_evaluated y stack) }
+{
+    let Some(frame) = stack.pop() else {
+        return Ok(None);
+    };
+    match frame {
+        Frame::Payload(owner, quoted) => evaluated_in(alloc, owner, quoted, y, stack),
+        other => let_go(other),
+    }
+}
+
+/// A definition ends.
+#[tactic(auto, using(crate::proofs::Payloads::method_on, crate::proofs::Payloads::method_off))]
+pub fn closed_method(alloc: Global, method: Method, stack: Stack) -> Answer
+    ensures { IfOk result (λ r. r ≡ closed_method method stack) }
+{
+    if on_payload(stack.layers()) {
+        closed_evaluated(alloc, method_evaluated(method), stack)
+    } else {
+        closed_entry(method_defined(method), stack)
+    }
+}
+
+/// An expression ends that is a statement, or is evaluated.
+#[tactic(auto, using(crate::proofs::Payloads::value_on, crate::proofs::Payloads::value_off))]
+pub fn closed_value(alloc: Global, e: Node, stack: Stack) -> Answer
+    ensures { IfOk result (λ r. r ≡ closed_value e stack) }
+{
+    small(e.nesting)?;
+    if on_payload(stack.layers()) {
+        closed_evaluated(alloc, value_evaluated(e), stack)
+    } else {
+        closed_line(alloc, value_of(e), stack)
+    }
+}
+
+/// Ok where what has the field that is set, and the value, don't nest too deep for a sum.
+fn small_assign(target: &Target, nesting: usize) -> Result<(), NoMemory>
+    ensures { OnOk result ((1 + holder_nesting target.now ≤ most_nesting) × (nesting ≤ most_nesting)) }
+{
+    match target {
+        Target::Field(holder, _) => small(holder.nesting.saturating_add(1).max(nesting)),
+        Target::Local(_) | Target::Global(_, _) => small(nesting),
+    }
+}
+
+/// An assignment as a statement.
+fn assign_line(
+    alloc: Global,
+    target: Target,
+    operator: Option<Operator>,
+    e: Node,
+) -> Result<Line, NoMemory>
+    ensures { IfOk result (λ made. made ≡ assign_of target operator e) }
+{
+    small_assign(&target, e.nesting)?;
+    assign_of(alloc, target, operator, e)
+}
+
+/// An assignment ends as a statement.
+fn set_line(
+    alloc: Global,
+    target: Target,
+    operator: Option<Operator>,
+    e: Node,
+    stack: Stack,
+) -> Answer
+    ensures { IfOk result (λ r. r ≡ closed_line (assign_of target operator e) stack) }
+{
+    let line = assign_line(alloc, target, operator, e)?;
+    closed_line(alloc, line, stack)
+}
+
+/// The assignment of a name ends as what is evaluated.
+fn set_payload(alloc: Global, name: Spot, e: Node, stack: Stack) -> Answer
+    ensures { IfOk result (λ r. r ≡ closed_evaluated (set_evaluated name e) stack) }
+{
+    small(e.nesting)?;
+    closed_evaluated(alloc, set_evaluated(name, e), stack)
+}
+
+/// The assignment of a name ends, as a statement or as what is evaluated.
+#[tactic(auto, using(crate::proofs::Payloads::set_on, crate::proofs::Payloads::set_off))]
+fn set_local(alloc: Global, name: Spot, operator: Option<Operator>, e: Node, stack: Stack) -> Answer
+    ensures { IfOk result (λ r. r ≡ closed_set (Target.Local name) operator e stack) }
+{
+    if on_payload(stack.layers()) {
+        set_payload(alloc, name, e, stack)
+    } else {
+        set_line(alloc, Target::Local(name), operator, e, stack)
+    }
+}
+
+/// An assignment ends.
+pub fn closed_set(
+    alloc: Global,
+    target: Target,
+    operator: Option<Operator>,
+    e: Node,
+    stack: Stack,
+) -> Answer
+    ensures { IfOk result (λ r. r ≡ closed_set target operator e stack) }
+{
+    match target {
+        Target::Local(name) => set_local(alloc, name, operator, e, stack),
+        Target::Field(holder, field) => {
+            set_line(alloc, Target::Field(holder, field), operator, e, stack)
+        }
+        Target::Global(place, name) => {
+            set_line(alloc, Target::Global(place, name), operator, e, stack)
+        }
+    }
+}

@@ -1,0 +1,115 @@
+//! Statements and items that end.
+ghost use Rattle.std.specs.Prelude.{◌≡◌, ◌∷◌, IfOk};
+ghost use Rattle.pj_grammar.specs.Closing.{closed_entry, closed_line};
+ghost use Rattle.pj_grammar.specs.Makers.{if_of, one_line};
+ghost use Rattle.pj_ends.specs.Leaving.{left, placed, within};
+
+use pj_base::NoMemory;
+use pj_frames::reading::{Answer, let_go, over};
+use pj_frames::stack::Stack;
+use pj_frames::view::on_branch;
+use pj_grammar::{Entries, Frame, Line, Lines, Mode, Node, Opener, Root};
+use pj_making::bounds::small;
+use pj_making::items::{Entry, entry_after, run_of};
+use pj_making::statements::{if_of, line_after, one_line};
+use std::alloc::Global;
+
+/// A statement that ends, and the frames around it.
+#[derive(Drop)]
+pub struct Standing {
+    pub line: Line,
+    pub stack: Stack,
+}
+
+/// A statement ends in a block.
+fn line_in_block(opener: Opener, lines: Lines, line: Line, stack: Stack) -> Answer
+    ensures { IfOk result (λ r. r ≡ placed line (Frame.Block opener lines ∷ stack)) }
+{
+    let lines = line_after(lines, line)?;
+    over(Mode::Closed, Frame::Block(opener, lines), stack)
+}
+
+/// A statement ends among items.
+fn line_in_items(root: Root, entries: Entries, line: Line, stack: Stack) -> Answer
+    ensures { IfOk result (λ r. r ≡ placed line (Frame.Items root entries ∷ stack)) }
+{
+    let entries = entry_after(entries, run_of(line))?;
+    over(Mode::Closed, Frame::Items(root, entries), stack)
+}
+
+/// A statement ends where no branch before `elseif` stands on top.
+fn place_line(line: Line, mut stack: Stack) -> Answer
+    ensures { IfOk result (λ r. r ≡ placed line stack) }
+{
+    let Some(frame) = stack.pop() else {
+        return let_go(line);
+    };
+    match frame {
+        Frame::Block(opener, lines) => line_in_block(opener, lines, line, stack),
+        Frame::Items(root, entries) => line_in_items(root, entries, line, stack),
+        other => let_go((other, line)),
+    }
+}
+
+/// An `if` with its condition and its branches.
+pub fn if_line(condition: Node, holds: Lines, fails: Lines) -> Result<Line, NoMemory>
+    ensures { IfOk result (λ made. made ≡ if_of condition holds fails) }
+{
+    small(condition.nesting.max(holds.nesting.max(fails.nesting)))?;
+    Ok(if_of(condition, holds, fails))
+}
+
+/// The `if` before an `elseif` ends with what stands behind that.
+fn end_branch(alloc: Global, condition: Node, before: Lines, line: Line) -> Result<Line, NoMemory>
+    ensures { IfOk result (λ made. made ≡ if_of condition before (one_line line)) }
+{
+    let rest = one_line(alloc, line)?;
+    if_line(condition, before, rest)
+}
+
+/// The `if` of a branch on top ends, if one stands there.
+fn leave_branch(alloc: Global, standing: Standing) -> Result<Standing, NoMemory>
+    ensures { IfOk result (λ made. within made ≡ left standing.line standing.stack) }
+{
+    let Standing { line, mut stack } = standing;
+    match stack.pop() {
+        Some(Frame::Branch(condition, before)) => {
+            let line = end_branch(alloc, condition, before, line)?;
+            Ok(Standing { line, stack })
+        }
+        Some(frame) => {
+            stack.push(frame)?;
+            Ok(Standing { line, stack })
+        }
+        None => Ok(Standing { line, stack }),
+    }
+}
+
+/// A statement ends, and each `if` of whose last branch it is the `elseif`.
+#[tactic(auto, using(crate::proofs::Leaving::branch_off, crate::proofs::Leaving::one_left, crate::proofs::Leaving::one_shorter))]
+pub fn closed_line(alloc: Global, line: Line, stack: Stack) -> Answer
+    ensures { IfOk result (λ r. r ≡ closed_line line stack) }
+{
+    let mut standing = Standing { line, stack };
+    while on_branch(standing.stack.layers()) {
+        standing = leave_branch(alloc, standing)?;
+    }
+    let Standing { line, stack } = standing;
+    place_line(line, stack)
+}
+
+/// An item ends.
+pub fn closed_entry(entry: Entry, mut stack: Stack) -> Answer
+    ensures { IfOk result (λ r. r ≡ closed_entry entry stack) }
+{
+    let Some(frame) = stack.pop() else {
+        return Ok(None);
+    };
+    match frame {
+        Frame::Items(root, entries) => {
+            let entries = entry_after(entries, entry)?;
+            over(Mode::Closed, Frame::Items(root, entries), stack)
+        }
+        other => let_go(other),
+    }
+}
