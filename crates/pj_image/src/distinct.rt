@@ -5,7 +5,8 @@ ghost use Rattle.pj_base.specs.Interned.{has_text};
 ghost use Rattle.pj_image.specs.New.{SameTexts, all_new};
 
 use indexmap::IndexSet;
-use pj_base::{NoMemory, Text};
+use pj_base::NoMemory;
+use pj_parts::ShortText;
 use std::alloc::Global;
 use std::hash::{Hash, Hasher};
 use std::marker::Model;
@@ -13,7 +14,7 @@ use std::marker::Model;
 /// A text, lent: a set finds it by its bytes.
 #[derive(Drop)]
 struct Lent<'a> {
-    text: &'a Text,
+    text: &'a ShortText,
 }
 
 impl PartialEq for Lent<'_> {
@@ -76,7 +77,7 @@ impl<'a> Distinct<'a> {
     }
 
     /// Adds a text last, where it is new, and tells whether it was. Without memory nothing changes.
-    pub fn add(&mut self, text: &'a Text) -> Result<bool, NoMemory>
+    pub fn add(&mut self, text: &'a ShortText) -> Result<bool, NoMemory>
         ensures new { IfOk result (λ new. new ≡ not (has_text text.now self.old)) }
         ensures after { IfOk result (λ new. self.new ≡ (if has_text text.now self.old then self.old else self.old ++ text.now ∷ [])) }
     {
@@ -84,7 +85,7 @@ impl<'a> Distinct<'a> {
     }
 
     /// Adds texts, those that are new.
-    pub fn add_all(&mut self, texts: &[&'a Text]) -> Result<(), NoMemory>
+    pub fn add_all(&mut self, texts: &[&'a ShortText]) -> Result<(), NoMemory>
         ensures { OnOk result (SameTexts self.new (self.old ++ map (λ t. t.now) texts.now)) }
     {
         for text in texts {
@@ -94,7 +95,7 @@ impl<'a> Distinct<'a> {
     }
 
     /// Adds texts up to the first that isn't new, and tells whether there is none.
-    pub fn add_new(&mut self, texts: &[&'a Text]) -> Result<bool, NoMemory>
+    pub fn add_new(&mut self, texts: &[&'a ShortText]) -> Result<bool, NoMemory>
         ensures { IfOk result (λ new. new ≡ all_new self.old (map (λ t. t.now) texts.now)) }
     {
         for text in texts {

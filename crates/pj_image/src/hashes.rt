@@ -5,7 +5,8 @@ ghost use Rattle.std.specs.List.{IsDistinct, list_any};
 ghost use Rattle.std.specs.Str.{bytes_eq};
 ghost use Rattle.pj_image.specs.Hashes.{hash_of as text_hash, Spreads, AllStand};
 
-use pj_base::{NoMemory, Text};
+use pj_base::NoMemory;
+use pj_parts::ShortText;
 use std::alloc::Global;
 use std::hash::{FoldHasher, Hasher};
 
@@ -34,7 +35,7 @@ fn empty_parts(alloc: Global, room: usize) -> Result<Vec<Vec<u64>>, NoMemory>
 }
 
 /// The hashes of texts, each in its part, so that few texts have to be compared at a time.
-fn spread(alloc: Global, texts: &[&Text]) -> Result<Vec<Vec<u64>>, NoMemory>
+fn spread(alloc: Global, texts: &[&ShortText]) -> Result<Vec<Vec<u64>>, NoMemory>
     ensures { IfOk result (λ parts. Spreads (map (λ t. text_hash t.now) texts.now) (map (λ part. part.items) parts.items)) }
 {
     let room = texts.len() / PARTS;
@@ -100,7 +101,7 @@ fn part_differs(alloc: Global, part: &[u64]) -> Result<bool, NoMemory>
 }
 
 /// Whether the hashes of texts differ. Then the texts do.
-pub fn hashes_differ(alloc: Global, texts: &[&Text]) -> Result<bool, NoMemory>
+pub fn hashes_differ(alloc: Global, texts: &[&ShortText]) -> Result<bool, NoMemory>
     ensures { IfOk result (λ differ. IsTrue differ → IsDistinct bytes_eq (map (λ t. t.now) texts.now)) }
 {
     let all = spread(alloc, texts)?;

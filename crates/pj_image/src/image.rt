@@ -1,5 +1,6 @@
-use pj_base::Text;
-use pj_parts::{Binding, CodeRecord, CodeWord, Directive, FunDef, Head, Method, Object, TypeDef};
+use pj_parts::{
+    Binding, CodeRecord, CodeWord, Directive, FunDef, Head, Method, Object, ShortText, TypeDef,
+};
 use pj_reloc::Entry;
 use pj_tree::TreeNode;
 use sqlite_items::Items;
@@ -8,7 +9,7 @@ use sqlite_items::Items;
 #[derive(Debug, Drop)]
 pub struct Image {
     pub head: Head,
-    pub strings: Items<Text>,
+    pub strings: Items<ShortText>,
     pub types: Items<TypeDef>,
     pub functions: Items<FunDef>,
     pub bindings: Items<Binding>,

@@ -8,8 +8,8 @@ ghost use Rattle.pj_image.specs.New.{all_new, name_taken, all_taken};
 ghost use Rattle.pj_image.specs.Sees.{Sees, Passes};
 
 use crate::seen::Seen;
-use pj_base::{NoMemory, Text};
-use pj_parts::{Binding, FunDef, PartFault};
+use pj_base::NoMemory;
+use pj_parts::{Binding, FunDef, PartFault, ShortText};
 use pj_tree::Sym;
 use pj_words::{is_base_name, is_identifier};
 use sqlite_items::at;
@@ -98,14 +98,14 @@ impl Named for Sym {
 }
 
 /// The string of a number.
-pub fn string_at(strings: &[Text], number: u32) -> Option<&Text>
+pub fn string_at(strings: &[ShortText], number: u32) -> Option<&ShortText>
     ensures { option_map (λ s. s.now) result ≡ slice_get strings.now number }
 {
     at(strings, number as usize)
 }
 
 /// The string that a name is.
-pub fn text_of<'a>(strings: &'a [Text], name: &Sym) -> Option<&'a str>
+pub fn text_of<'a>(strings: &'a [ShortText], name: &Sym) -> Option<&'a str>
     ensures is { option_map (λ s. s.now) result ≡ sym_text strings.now name.now }
     ensures range { OnSome result (SymFits name.now) }
 {
@@ -119,7 +119,7 @@ pub fn text_of<'a>(strings: &'a [Text], name: &Sym) -> Option<&'a str>
 }
 
 /// Adds a text to those seen.
-fn take_text<'a>(text: &'a Text, seen: &mut Seen<'a>) -> Result<(), PartFault>
+fn take_text<'a>(text: &'a ShortText, seen: &mut Seen<'a>) -> Result<(), PartFault>
     ensures { Sees result seen.new (Some (seen.old ++ text.now ∷ [])) }
 {
     match seen.add(text) {
@@ -130,7 +130,7 @@ fn take_text<'a>(text: &'a Text, seen: &mut Seen<'a>) -> Result<(), PartFault>
 
 /// Adds a name to those seen, where it is a string of the image that passes.
 fn take_name<'a, T: Named>(
-    strings: &'a [Text],
+    strings: &'a [ShortText],
     named: &T,
     seen: &mut Seen<'a>,
 ) -> Result<(), PartFault>
@@ -151,7 +151,7 @@ fn take_name<'a, T: Named>(
 
 /// Adds names to those seen, where each is a string of the image that passes.
 fn take_names<'a, T: Named>(
-    strings: &'a [Text],
+    strings: &'a [ShortText],
     all: &[T],
     seen: &mut Seen<'a>,
 ) -> Result<(), PartFault>
@@ -179,7 +179,7 @@ fn check_new(alloc: Global, seen: &Seen, start: usize) -> Result<(), PartFault>
 /// Adds names to those seen, where each is a string of the image that passes, and differs from all before it.
 pub fn see_names<'a, T: Named>(
     alloc: Global,
-    strings: &'a [Text],
+    strings: &'a [ShortText],
     all: &[T],
     seen: &mut Seen<'a>,
 ) -> Result<(), PartFault>

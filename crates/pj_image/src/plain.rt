@@ -11,13 +11,13 @@ ghost use Rattle.pj_tree.specs.declared.tree.Body.{out-Body};
 
 use crate::named::{see_names, text_of};
 use crate::seen::Seen;
-use pj_base::{NoMemory, Text};
-use pj_parts::PartFault;
+use pj_base::NoMemory;
+use pj_parts::{PartFault, ShortText};
 use pj_tree::{Body, Expr, Stmt, Sym, TreeNode};
 use std::alloc::Global;
 
 /// Whether a name is a parameter's.
-fn names_parameter(strings: &[Text], params: &Seen, name: &Sym) -> bool
+fn names_parameter(strings: &[ShortText], params: &Seen, name: &Sym) -> bool
     ensures is { result ≡ passes (is_among params.now) (sym_text strings.now name.now) }
     ensures fits { IsTrue result → SymFits name.now }
 {
@@ -28,7 +28,7 @@ fn names_parameter(strings: &[Text], params: &Seen, name: &Sym) -> bool
 }
 
 /// Whether a name is that of Base.
-fn names_base(strings: &[Text], name: &Sym) -> bool
+fn names_base(strings: &[ShortText], name: &Sym) -> bool
     ensures is { result ≡ passes is_base (sym_text strings.now name.now) }
     ensures fits { IsTrue result → SymFits name.now }
 {
@@ -39,7 +39,7 @@ fn names_base(strings: &[Text], name: &Sym) -> bool
 }
 
 /// Whether a name is that of `+`, `-` or `*`.
-fn names_operator(strings: &[Text], name: &Sym) -> bool
+fn names_operator(strings: &[ShortText], name: &Sym) -> bool
     ensures is { result ≡ passes is_operator (sym_text strings.now name.now) }
     ensures fits { IsTrue result → SymFits name.now }
 {
@@ -53,7 +53,7 @@ fn names_operator(strings: &[Text], name: &Sym) -> bool
 /// two arguments.
 #[cycle(plain)]
 #[tactic(auto, unfolding(crate::specs::PlainTrees::plain_expr, pj_tree::specs::Fits::ExprFits))]
-fn plain_expr(depth: u32, strings: &[Text], params: &Seen, e: &Expr) -> bool
+fn plain_expr(depth: u32, strings: &[ShortText], params: &Seen, e: &Expr) -> bool
     ensures is { result ≡ is_plain_expr strings.now params.now depth e.now }
     ensures fits { IsTrue result → ExprFits depth e.now }
 {
@@ -64,7 +64,7 @@ fn plain_expr(depth: u32, strings: &[Text], params: &Seen, e: &Expr) -> bool
 }
 
 #[cycle(plain)]
-fn plain_node(below: u32, strings: &[Text], params: &Seen, e: &Expr) -> bool
+fn plain_node(below: u32, strings: &[ShortText], params: &Seen, e: &Expr) -> bool
     ensures is { result ≡ plain_layer strings.now params.now (is_plain_expr strings.now params.now below) (out-Expr e.now) }
     ensures fits { IsTrue result → ExprNodeFits (ExprFits below) (out-Expr e.now) }
 {
@@ -87,7 +87,7 @@ fn plain_node(below: u32, strings: &[Text], params: &Seen, e: &Expr) -> bool
 }
 
 #[cycle(plain)]
-fn plain_arguments(below: u32, strings: &[Text], params: &Seen, all: &[Expr]) -> bool
+fn plain_arguments(below: u32, strings: &[ShortText], params: &Seen, all: &[Expr]) -> bool
     ensures is { result ≡ plain_pair (is_plain_expr strings.now params.now below) all.now }
     ensures fits { IsTrue result → ListFits (ExprFits below) all.now }
 {
@@ -101,7 +101,7 @@ fn plain_arguments(below: u32, strings: &[Text], params: &Seen, all: &[Expr]) ->
 
 /// Whether a statement is such an expression.
 #[tactic(auto, unfolding(pj_tree::specs::Fits::StmtFits))]
-fn plain_stmt(strings: &[Text], params: &Seen, s: &Stmt) -> bool
+fn plain_stmt(strings: &[ShortText], params: &Seen, s: &Stmt) -> bool
     ensures is { result ≡ plain_statement strings.now params.now (out-Stmt s.now) }
     ensures fits { IsTrue result → StmtFits 127 s.now }
 {
@@ -112,7 +112,7 @@ fn plain_stmt(strings: &[Text], params: &Seen, s: &Stmt) -> bool
 }
 
 /// Whether a block is one such statement.
-fn plain_block(strings: &[Text], params: &Seen, block: &[Stmt]) -> bool
+fn plain_block(strings: &[ShortText], params: &Seen, block: &[Stmt]) -> bool
     ensures is { result ≡ is_plain_block strings.now params.now block.now }
     ensures fits { IsTrue result → ListFits (StmtFits 127) block.now }
 {
@@ -123,7 +123,7 @@ fn plain_block(strings: &[Text], params: &Seen, block: &[Stmt]) -> bool
 }
 
 /// Whether a body has at most 16 parameters, which are different identifiers, no other names, and one such statement.
-fn plain_body(alloc: Global, strings: &[Text], b: &Body) -> Result<bool, NoMemory>
+fn plain_body(alloc: Global, strings: &[ShortText], b: &Body) -> Result<bool, NoMemory>
     ensures is { IfOk result (λ plain. plain ≡ is_plain_body strings.now (out-Body b.now)) }
     ensures fits { IfOk result (λ plain. IsTrue plain → BodyNodeFits (StmtFits 127) (out-Body b.now)) }
 {
@@ -140,7 +140,7 @@ fn plain_body(alloc: Global, strings: &[Text], b: &Body) -> Result<bool, NoMemor
 
 /// Whether a tree is a body of this form. Then it has a spelling.
 #[tactic(auto, unfolding(pj_tree::specs::Fits::TreeFitsBelow))]
-pub fn plain_tree(alloc: Global, strings: &[Text], t: &TreeNode) -> Result<bool, NoMemory>
+pub fn plain_tree(alloc: Global, strings: &[ShortText], t: &TreeNode) -> Result<bool, NoMemory>
     ensures is { IfOk result (λ plain. plain ≡ is_plain strings.now t.now) }
     ensures fits { IfOk result (λ plain. IsTrue plain → TreeFits t.now) }
 {
@@ -151,7 +151,11 @@ pub fn plain_tree(alloc: Global, strings: &[Text], t: &TreeNode) -> Result<bool,
 }
 
 /// Whether all trees are bodies of this form. Then they have spellings.
-pub fn plain_trees(alloc: Global, strings: &[Text], trees: &[TreeNode]) -> Result<bool, NoMemory>
+pub fn plain_trees(
+    alloc: Global,
+    strings: &[ShortText],
+    trees: &[TreeNode],
+) -> Result<bool, NoMemory>
     ensures is { IfOk result (λ plain. plain ≡ list_all (is_plain strings.now) trees.now) }
     ensures fits { IfOk result (λ plain. IsTrue plain → AllByRecursion TreeFits trees.now) }
 {

@@ -18,8 +18,8 @@ use crate::named::{Named, see_names};
 use crate::plain::plain_trees;
 use crate::seen::Seen;
 use crate::stages::{Bodies, Declared, Ending};
-use pj_base::{NoMemory, Text};
-use pj_parts::{Binding, FunDef, Head, Method, PartFault};
+use pj_base::NoMemory;
+use pj_parts::{Binding, FunDef, Head, Method, PartFault, ShortText};
 use pj_reloc::Entry;
 use pj_tree::TreeNode;
 use pj_words::is_package_name;
@@ -37,7 +37,7 @@ fn has_name(name: &str, head: &Head) -> bool
 fn see_section<'a, T: Named>(
     alloc: Global,
     section: u32,
-    strings: &'a [Text],
+    strings: &'a [ShortText],
     all: &[T],
     seen: &mut Seen<'a>,
 ) -> Result<(), DecodeFault>
@@ -61,7 +61,7 @@ pub fn take_declared<'a>(
 {
     let (head, rest) = take_section(alloc, 1, bytes)?;
     check(1, has_name(name, &head))?;
-    let (strings, rest) = take_section::<Items<Text>>(alloc, 2, rest)?;
+    let (strings, rest) = take_section::<Items<ShortText>>(alloc, 2, rest)?;
     let (types, rest) = take_section(alloc, 3, rest)?;
     let (functions, rest) = take_section::<Items<FunDef>>(alloc, 4, rest)?;
     let mut seen = Seen::new(alloc);
@@ -91,7 +91,7 @@ pub fn take_declared<'a>(
 #[tactic(auto, unfolding(crate::specs::File::bodies_at))]
 pub fn take_bodies<'a>(
     alloc: Global,
-    strings: &[Text],
+    strings: &[ShortText],
     size: usize,
     bytes: &'a [u8],
 ) -> Result<(Bodies, &'a [u8]), DecodeFault>
@@ -114,7 +114,7 @@ pub fn take_bodies<'a>(
 }
 
 /// Whether all trees are of the form that is built today.
-fn all_plain(alloc: Global, strings: &[Text], trees: &[TreeNode]) -> Result<bool, DecodeFault>
+fn all_plain(alloc: Global, strings: &[ShortText], trees: &[TreeNode]) -> Result<bool, DecodeFault>
     ensures { MatchResult result (λ plain. plain ≡ list_all (is_plain strings.now) trees.now) (λ fault. fault ≡ DecodeFault.NoMemory) }
 {
     match plain_trees(alloc, strings, trees) {

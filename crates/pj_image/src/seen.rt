@@ -6,7 +6,8 @@ ghost use Rattle.pj_image.specs.New.{all_new};
 
 use crate::distinct::Distinct;
 use crate::hashes::hashes_differ;
-use pj_base::{NoMemory, Text};
+use pj_base::NoMemory;
+use pj_parts::ShortText;
 use std::alloc::Global;
 use std::marker::Model;
 
@@ -16,7 +17,7 @@ const MANY: usize = 65_536;
 /// Texts of an image in the order in which they were seen. Contracts see the list.
 #[derive(Drop)]
 pub struct Seen<'a> {
-    texts: Vec<&'a Text>,
+    texts: Vec<&'a ShortText>,
 }
 
 impl<'a> Model for Seen<'a> {
@@ -28,7 +29,7 @@ impl<'a> Model for Seen<'a> {
 }
 
 /// Whether each text from this place on differs from all before it.
-fn exactly(alloc: Global, texts: &[&Text], start: usize) -> Result<bool, NoMemory>
+fn exactly(alloc: Global, texts: &[&ShortText], start: usize) -> Result<bool, NoMemory>
     requires { start ≤ length texts.now }
     ensures { IfOk result (λ differ. differ ≡ all_new (take start (map (λ t. t.now) texts.now)) (drop start (map (λ t. t.now) texts.now))) }
 {
@@ -56,7 +57,7 @@ impl<'a> Seen<'a> {
     }
 
     /// Adds a text last. Without memory nothing changes.
-    pub fn add(&mut self, text: &'a Text) -> Result<(), NoMemory>
+    pub fn add(&mut self, text: &'a ShortText) -> Result<(), NoMemory>
         ensures added { OnOk result (self.new ≡ self.old ++ text.now ∷ []) }
         ensures unchanged { OnErr result (self.new ≡ self.old) }
     {

@@ -1,7 +1,8 @@
 //! The parts of an image as they are read, some sections at a time.
 
-use pj_base::Text;
-use pj_parts::{Binding, CodeRecord, CodeWord, Directive, FunDef, Head, Method, Object, TypeDef};
+use pj_parts::{
+    Binding, CodeRecord, CodeWord, Directive, FunDef, Head, Method, Object, ShortText, TypeDef,
+};
 use pj_reloc::Entry;
 use pj_tree::TreeNode;
 use sqlite_items::Items;
@@ -10,7 +11,7 @@ use sqlite_items::Items;
 #[derive(Debug, Drop)]
 pub struct Declared {
     pub head: Head,
-    pub strings: Items<Text>,
+    pub strings: Items<ShortText>,
     pub types: Items<TypeDef>,
     pub functions: Items<FunDef>,
     pub bindings: Items<Binding>,

@@ -6,8 +6,9 @@ ghost use Rattle.pj_parts.specs.Given.{Gives};
 
 use crate::fault::PartFault;
 use crate::part::Part;
+use crate::short_text::ShortText;
 use crate::types::{Dependency, Head};
-use pj_base::{ByteList, NoMemory, Text};
+use pj_base::{ByteList, NoMemory};
 use sqlite_items::Items;
 use std::alloc::Global;
 
@@ -58,7 +59,7 @@ impl Part for Head {
 
     #[tactic(auto, unfolding(crate::specs::Reading::head_at))]
     fn take(alloc: Global, source: &[u8]) -> Result<(Head, &[u8]), PartFault> {
-        let (name, rest) = Text::take(alloc, source)?;
+        let (name, rest) = ShortText::take(alloc, source)?;
         let (dependencies, rest) = Items::take(alloc, rest)?;
         Ok((Head { name, dependencies }, rest))
     }

@@ -10,6 +10,7 @@ pub mod list;
 pub mod methods;
 pub mod part;
 pub mod records;
+pub mod short_text;
 pub mod simple;
 pub mod tested;
 pub mod tree_size;
@@ -18,6 +19,7 @@ pub mod types;
 
 pub use fault::PartFault;
 pub use part::Part;
+pub use short_text::ShortText;
 pub use tested::Tested;
 pub use types::{
     Binding, BindingForm, CodeRecord, CodeWord, Dependency, Directive, Edge, Element, FieldDef,

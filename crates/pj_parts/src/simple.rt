@@ -9,7 +9,8 @@ ghost use Rattle.pj_parts.specs.Spelling.{text};
 
 use crate::fault::PartFault;
 use crate::part::Part;
-use pj_base::{ByteList, NoMemory, Text};
+use crate::short_text::ShortText;
+use pj_base::{ByteList, NoMemory};
 use pj_fields::{put_number, take_number};
 use std::alloc::Global;
 use std::str;
@@ -41,7 +42,7 @@ impl Part for u32 {
     }
 }
 
-impl Part for Text {
+impl Part for ShortText {
     ghost use Rattle.pj_parts.specs.Fits.{TextFits};
     ghost use Rattle.pj_parts.specs.Reading.{text_at};
     ghost use Rattle.pj_parts.specs.Spelling.{text};
@@ -59,7 +60,7 @@ impl Part for Text {
     }
 
     #[tactic(auto, unfolding(crate::specs::Reading::text_at))]
-    fn take(alloc: Global, source: &[u8]) -> Result<(Text, &[u8]), PartFault> {
+    fn take(alloc: Global, source: &[u8]) -> Result<(ShortText, &[u8]), PartFault> {
         let (count, rest) = u32::take(alloc, source)?;
         string(alloc, count as usize, rest)
     }
@@ -82,7 +83,7 @@ fn utf8(bytes: &[u8]) -> Option<&str>
 }
 
 /// So many bytes as a text, and the bytes after them.
-fn string(alloc: Global, count: usize, source: &[u8]) -> Result<(Text, &[u8]), PartFault>
+fn string(alloc: Global, count: usize, source: &[u8]) -> Result<(ShortText, &[u8]), PartFault>
     ensures { Gives (λ x. (x.0, x.1.now)) result (string_at count source.now) }
 {
     if source.len() < count {
@@ -96,10 +97,10 @@ fn string(alloc: Global, count: usize, source: &[u8]) -> Result<(Text, &[u8]), P
 }
 
 /// A copy of a text.
-fn copied(alloc: Global, found: &str) -> Result<Text, PartFault>
+fn copied(alloc: Global, found: &str) -> Result<ShortText, PartFault>
     ensures { Copies result found.now }
 {
-    match Text::from_str(alloc, found) {
+    match ShortText::from_str(alloc, found) {
         Ok(copy) => Ok(copy),
         Err(NoMemory) => Err(PartFault::NoMemory),
     }

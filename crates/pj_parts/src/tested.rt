@@ -3,11 +3,11 @@
 ghost use Rattle.std.specs.Prelude.{◌↔◌, IsTrue};
 ghost use Rattle.std.specs.List.{AllByRecursion};
 
+use crate::short_text::ShortText;
 use crate::types::{
     Binding, CodeRecord, CodeWord, Dependency, Directive, FunDef, Head, Method, Object, TypeDef,
     Value,
 };
-use pj_base::Text;
 use pj_reloc::Entry;
 use pj_tree::Sym;
 use sqlite_items::Items;
@@ -68,7 +68,7 @@ impl Tested for Sym {
     }
 }
 
-impl Tested for Text {
+impl Tested for ShortText {
     ghost use Rattle.pj_parts.specs.Fits.{TextFits};
 
     ghost fits = { TextFits };

@@ -5,20 +5,20 @@
 ghost use Rattle.std.specs.Prelude.{◌≡◌};
 ghost use Rattle.pj_parts.specs.Spelling.{form_number};
 
-use pj_base::Text;
+use crate::short_text::ShortText;
 use sqlite_items::Items;
 
 /// Another package whose image this one was built over.
 #[derive(Debug, Drop)]
 pub struct Dependency {
-    pub name: Text,
+    pub name: ShortText,
     pub identity: [u8; 32],
 }
 
 /// The package's name, and its dependencies in order.
 #[derive(Debug, Drop)]
 pub struct Head {
-    pub name: Text,
+    pub name: ShortText,
     pub dependencies: Items<Dependency>,
 }
 
