@@ -8,19 +8,19 @@ ghost use Rattle.pj_frames.specs.Stacked.{frames_of};
 ghost use Rattle.pj_frames.specs.Tops.{in_directive};
 
 use crate::calls::{close_call, only_of, type_of_param};
+use pj_base::Text;
 use pj_ends::params::end_params;
 use pj_frames::place::Place;
-use pj_frames::reading::{Answer, Reading, at, guarded, guarded_over, over};
+use pj_frames::reading::{Answer, Reading, at, gone, guarded, guarded_over, let_go, over};
 use pj_frames::stack::{Layer, Stack, split_top};
 use pj_frames::view::{admits, takes_directives, takes_lines};
-use pj_base::Text;
 use pj_grammar::{Form, Frame, Given, Head, Level, Mode, Node, Operator, Purpose};
 use pj_lex::{Sign, TokenKind};
 use pj_making::bounds::small;
 use pj_making::expressions::{field_of, leaf, literal_of};
 use pj_making::levels::{is_prefix, operator_text};
 use pj_making::params::params_of;
-use pj_syntax::{Expr, Path, PathList, Spot};
+use pj_syntax::{Expr, ParamList, Path, PathList, Spot};
 use sqlite_items::Items;
 use std::alloc::Global;
 
@@ -56,28 +56,41 @@ fn opens_types(layers: &[Layer]) -> bool
     }
 }
 
+/// No types, behind the function of a directive and in an expression.
+fn no_types_hole(
+    alloc: Global,
+    start: usize,
+    f: Path,
+    g: Path,
+    purpose: Purpose,
+    stack: Stack,
+) -> Answer
+    ensures { IfOk result (λ r. r ≡ close_types (Frame.Group start true ∷ Frame.Call f (Given.Paths (g ∷ [])) ∷ Frame.Hole purpose ∷ stack)) }
+{
+    match purpose {
+        Purpose::Value => {
+            let frame = Frame::Types(g, Items::new(alloc));
+            over(Mode::DirectiveEnd, frame, stack)
+        }
+        other => let_go(other),
+    }
+}
+
 /// No types, behind the function of a directive.
 fn no_types_in(alloc: Global, start: usize, f: Path, g: Path, mut stack: Stack) -> Answer
     ensures { IfOk result (λ r. r ≡ close_types (Frame.Group start true ∷ Frame.Call f (Given.Paths (g ∷ [])) ∷ stack)) }
 {
-    match stack.pop() {
-        Some(Frame::Hole(Purpose::Value)) => {
-            let frame = Frame::Types(g, Items::new(alloc));
-            over(Mode::DirectiveEnd, frame, stack)
-        }
-        Some(_) => Ok(None),
-        None => Ok(None),
+    let Some(frame) = stack.pop() else {
+        return Ok(None);
+    };
+    match frame {
+        Frame::Hole(purpose) => no_types_hole(alloc, start, f, g, purpose, stack),
+        other => let_go(other),
     }
 }
 
 /// No types, behind names.
-fn no_types_behind(
-    alloc: Global,
-    start: usize,
-    f: Path,
-    paths: PathList,
-    stack: Stack,
-) -> Answer
+fn no_types_behind(alloc: Global, start: usize, f: Path, paths: PathList, stack: Stack) -> Answer
     ensures { IfOk result (λ r. r ≡ close_types (Frame.Group start true ∷ Frame.Call f (Given.Paths paths) ∷ stack)) }
 {
     match only_of(paths) {
@@ -92,7 +105,7 @@ fn no_types_call(alloc: Global, start: usize, f: Path, given: Given, stack: Stac
 {
     match given {
         Given::Paths(paths) => no_types_behind(alloc, start, f, paths, stack),
-        Given::Mixed(_) => Ok(None),
+        Given::Mixed(other) => let_go(other),
     }
 }
 
@@ -100,10 +113,23 @@ fn no_types_call(alloc: Global, start: usize, f: Path, given: Given, stack: Stac
 fn no_types_over(alloc: Global, start: usize, mut stack: Stack) -> Answer
     ensures { IfOk result (λ r. r ≡ close_types (Frame.Group start true ∷ stack)) }
 {
-    match stack.pop() {
-        Some(Frame::Call(f, given)) => no_types_call(alloc, start, f, given, stack),
-        Some(_) => Ok(None),
-        None => Ok(None),
+    let Some(frame) = stack.pop() else {
+        return Ok(None);
+    };
+    match frame {
+        Frame::Call(f, given) => no_types_call(alloc, start, f, given, stack),
+        other => let_go(other),
+    }
+}
+
+/// A group ends that has nothing in it, which only the types of a directive can be.
+fn close_group(alloc: Global, start: usize, types: bool, stack: Stack) -> Answer
+    ensures { IfOk result (λ r. r ≡ close_types (Frame.Group start types ∷ stack)) }
+{
+    if types {
+        no_types_over(alloc, start, stack)
+    } else {
+        Ok(None)
     }
 }
 
@@ -111,10 +137,12 @@ fn no_types_over(alloc: Global, start: usize, mut stack: Stack) -> Answer
 fn close_types(alloc: Global, mut stack: Stack) -> Answer
     ensures { IfOk result (λ r. r ≡ close_types stack) }
 {
-    match stack.pop() {
-        Some(Frame::Group(start, true)) => no_types_over(alloc, start, stack),
-        Some(_) => Ok(None),
-        None => Ok(None),
+    let Some(frame) = stack.pop() else {
+        return Ok(None);
+    };
+    match frame {
+        Frame::Group(start, types) => close_group(alloc, start, types, stack),
+        other => let_go(other),
     }
 }
 
@@ -160,10 +188,32 @@ pub fn operand(alloc: Global, stack: Stack, place: Place, kind: TokenKind) -> An
 fn end_arguments(mut stack: Stack) -> Answer
     ensures { IfOk result (λ r. r ≡ end_arguments stack) }
 {
-    match stack.pop() {
-        Some(Frame::Call(f, given)) => close_call(f, given, stack),
-        Some(_) => Ok(None),
-        None => Ok(None),
+    let Some(frame) = stack.pop() else {
+        return Ok(None);
+    };
+    match frame {
+        Frame::Call(f, given) => close_call(f, given, stack),
+        other => let_go(other),
+    }
+}
+
+/// `::` where an argument may begin, behind names and in an expression.
+fn type_in_hole(
+    alloc: Global,
+    start: usize,
+    f: Path,
+    paths: PathList,
+    purpose: Purpose,
+    stack: Stack,
+) -> Answer
+    ensures { IfOk result (λ r. r ≡ type_argument start (Frame.Call f (Given.Paths paths) ∷ Frame.Hole purpose ∷ stack)) }
+{
+    match purpose {
+        Purpose::Value => {
+            let params = params_of(alloc, paths)?;
+            type_of_param(None, start, f, params, stack)
+        }
+        other => let_go(other),
     }
 }
 
@@ -171,13 +221,12 @@ fn end_arguments(mut stack: Stack) -> Answer
 fn type_behind(alloc: Global, start: usize, f: Path, paths: PathList, mut stack: Stack) -> Answer
     ensures { IfOk result (λ r. r ≡ type_argument start (Frame.Call f (Given.Paths paths) ∷ stack)) }
 {
-    match stack.pop() {
-        Some(Frame::Hole(Purpose::Value)) => {
-            let params = params_of(alloc, paths)?;
-            type_of_param(None, start, f, params, stack)
-        }
-        Some(_) => Ok(None),
-        None => Ok(None),
+    let Some(frame) = stack.pop() else {
+        return Ok(None);
+    };
+    match frame {
+        Frame::Hole(purpose) => type_in_hole(alloc, start, f, paths, purpose, stack),
+        other => let_go(other),
     }
 }
 
@@ -187,7 +236,7 @@ fn type_in_call(alloc: Global, start: usize, f: Path, given: Given, stack: Stack
 {
     match given {
         Given::Paths(paths) => type_behind(alloc, start, f, paths, stack),
-        Given::Mixed(_) => Ok(None),
+        Given::Mixed(other) => let_go(other),
     }
 }
 
@@ -195,10 +244,25 @@ fn type_in_call(alloc: Global, start: usize, f: Path, given: Given, stack: Stack
 fn type_argument(alloc: Global, start: usize, mut stack: Stack) -> Answer
     ensures { IfOk result (λ r. r ≡ type_argument start stack) }
 {
-    match stack.pop() {
-        Some(Frame::Call(f, given)) => type_in_call(alloc, start, f, given, stack),
-        Some(_) => Ok(None),
-        None => Ok(None),
+    let Some(frame) = stack.pop() else {
+        return Ok(None);
+    };
+    match frame {
+        Frame::Call(f, given) => type_in_call(alloc, start, f, given, stack),
+        other => let_go(other),
+    }
+}
+
+/// `:` behind `eval(` in an expression.
+fn quote_hole(f: Spot, purpose: Purpose, stack: Stack) -> Answer
+    ensures { IfOk result (λ r. r ≡ quote (Frame.Call (Path.Bare f) (Given.Paths []) ∷ Frame.Hole purpose ∷ stack)) }
+{
+    match purpose {
+        Purpose::Value => {
+            let holds = f.text.as_str() == "eval" && takes_lines(stack.layers());
+            Ok(guarded(holds, Mode::EvalOpen, stack))
+        }
+        other => let_go(other),
     }
 }
 
@@ -206,13 +270,12 @@ fn type_argument(alloc: Global, start: usize, mut stack: Stack) -> Answer
 fn quote_in(f: Spot, mut stack: Stack) -> Answer
     ensures { IfOk result (λ r. r ≡ quote (Frame.Call (Path.Bare f) (Given.Paths []) ∷ stack)) }
 {
-    match stack.pop() {
-        Some(Frame::Hole(Purpose::Value)) => {
-            let holds = f.text.as_str() == "eval" && takes_lines(stack.layers());
-            Ok(guarded(holds, Mode::EvalOpen, stack))
-        }
-        Some(_) => Ok(None),
-        None => Ok(None),
+    let Some(frame) = stack.pop() else {
+        return Ok(None);
+    };
+    match frame {
+        Frame::Hole(purpose) => quote_hole(f, purpose, stack),
+        other => let_go(other),
     }
 }
 
@@ -222,7 +285,7 @@ fn quote_path(f: Path, stack: Stack) -> Answer
 {
     match f {
         Path::Bare(f) => quote_in(f, stack),
-        Path::Of(_, _) => Ok(None),
+        other => let_go(other),
     }
 }
 
@@ -243,7 +306,7 @@ fn quote_call(f: Path, given: Given, stack: Stack) -> Answer
 {
     match given {
         Given::Paths(paths) => quote_over(f, paths, stack),
-        Given::Mixed(_) => Ok(None),
+        Given::Mixed(other) => let_go(other),
     }
 }
 
@@ -251,10 +314,12 @@ fn quote_call(f: Path, given: Given, stack: Stack) -> Answer
 fn quote(mut stack: Stack) -> Answer
     ensures { IfOk result (λ r. r ≡ quote stack) }
 {
-    match stack.pop() {
-        Some(Frame::Call(f, given)) => quote_call(f, given, stack),
-        Some(_) => Ok(None),
-        None => Ok(None),
+    let Some(frame) = stack.pop() else {
+        return Ok(None);
+    };
+    match frame {
+        Frame::Call(f, given) => quote_call(f, given, stack),
+        other => let_go(other),
     }
 }
 
@@ -280,7 +345,29 @@ pub fn parameter(alloc: Global, stack: Stack, place: Place, kind: TokenKind) -> 
             over(Mode::PathStart, Frame::TypeOf(None, place.start), stack)
         }
         TokenKind::Name(text) => Ok(named(text, place, stack)),
-        _ => Ok(None),
+        other => let_go(other),
+    }
+}
+
+/// What follows the parameters of a short definition.
+fn short_body(f: Path, params: ParamList, stack: Stack, kind: TokenKind) -> Answer
+    ensures { IfOk result (λ r. r ≡ short_assign (Frame.Signature Form.Short f params ∷ stack) kind) }
+{
+    match kind {
+        TokenKind::Sign(Sign::Assign) => {
+            over(Mode::Want, Frame::Hole(Purpose::Short(f, params)), stack)
+        }
+        other => let_go(other),
+    }
+}
+
+/// What follows parameters, behind which a body stands.
+fn short_in(form: Form, f: Path, params: ParamList, stack: Stack, kind: TokenKind) -> Answer
+    ensures { IfOk result (λ r. r ≡ short_assign (Frame.Signature form f params ∷ stack) kind) }
+{
+    match form {
+        Form::Short => short_body(f, params, stack, kind),
+        Form::Long => Ok(None),
     }
 }
 
@@ -288,15 +375,12 @@ pub fn parameter(alloc: Global, stack: Stack, place: Place, kind: TokenKind) -> 
 pub fn short_assign(mut stack: Stack, kind: TokenKind) -> Answer
     ensures { IfOk result (λ r. r ≡ short_assign stack kind) }
 {
-    match stack.pop() {
-        Some(Frame::Signature(Form::Short, f, params)) => match kind {
-            TokenKind::Sign(Sign::Assign) => {
-                over(Mode::Want, Frame::Hole(Purpose::Short(f, params)), stack)
-            }
-            _ => Ok(None),
-        },
-        Some(_) => Ok(None),
-        None => Ok(None),
+    let Some(frame) = stack.pop() else {
+        return Ok(None);
+    };
+    match frame {
+        Frame::Signature(form, f, params) => short_in(form, f, params, stack, kind),
+        other => let_go(other),
     }
 }
 
@@ -331,7 +415,7 @@ pub fn field_name(
             };
             field_read(alloc, e, assignable, field, stack)
         }
-        _ => Ok(None),
+        other => let_go(other),
     }
 }
 
@@ -351,7 +435,7 @@ pub fn member_name(m: Spot, stack: Stack, place: Place, kind: TokenKind) -> Opti
             let holds = m.text.as_str() == "Base" && admits(stack.layers(), Level::Callee);
             guarded(holds, Mode::BaseOperator(m), stack)
         }
-        _ => None,
+        other => gone(other),
     }
 }
 
@@ -368,7 +452,7 @@ pub fn base_operator(alloc: Global, m: Spot, stack: Stack, place: Place, kind: T
             };
             Ok(guarded(sign.is_operator(), Mode::Have(Head::Operator(m, x)), stack))
         }
-        _ => Ok(None),
+        other => let_go(other),
     }
 }
 
@@ -378,7 +462,7 @@ pub fn path_start(stack: Stack, place: Place, kind: TokenKind) -> Option<Reading
 {
     match kind {
         TokenKind::Name(text) => named(text, place, stack),
-        _ => None,
+        other => gone(other),
     }
 }
 
@@ -389,6 +473,6 @@ pub fn types(stack: Stack, place: Place, kind: TokenKind) -> Option<Reading>
     match kind {
         TokenKind::Sign(Sign::RightParen) => at(Mode::DirectiveEnd, stack),
         TokenKind::Name(text) => named(text, place, stack),
-        _ => None,
+        other => gone(other),
     }
 }

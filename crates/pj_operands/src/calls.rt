@@ -100,6 +100,27 @@ pub fn type_of_param(
     }
 }
 
+/// `::` behind a name among the arguments of a call that an expression begins with.
+fn type_in_hole(
+    alloc: Global,
+    x: Spot,
+    f: Path,
+    paths: PathList,
+    purpose: Purpose,
+    stack: Stack,
+) -> Answer
+    ensures { IfOk result (λ r. r ≡ have_type (Head.Name x) (Frame.Call f (Given.Paths paths) ∷ Frame.Hole purpose ∷ stack)) }
+{
+    match purpose {
+        Purpose::Value => {
+            let first = x.at;
+            let params = params_of(alloc, paths)?;
+            type_of_param(Some(x), first, f, params, stack)
+        }
+        other => let_go(other),
+    }
+}
+
 /// `::` behind a name that may be a parameter of a call that becomes a definition.
 fn type_in_paths(alloc: Global, x: Spot, f: Path, paths: PathList, mut stack: Stack) -> Answer
     ensures { IfOk result (λ r. r ≡ have_type (Head.Name x) (Frame.Call f (Given.Paths paths) ∷ stack)) }
@@ -108,11 +129,7 @@ fn type_in_paths(alloc: Global, x: Spot, f: Path, paths: PathList, mut stack: St
         return Ok(None);
     };
     match frame {
-        Frame::Hole(Purpose::Value) => {
-            let first = x.at;
-            let params = params_of(alloc, paths)?;
-            type_of_param(Some(x), first, f, params, stack)
-        }
+        Frame::Hole(purpose) => type_in_hole(alloc, x, f, paths, purpose, stack),
         other => let_go(other),
     }
 }
@@ -207,6 +224,20 @@ pub fn only_of(mut paths: PathList) -> Option<Path>
     if paths.is_empty() { Some(path) } else { None }
 }
 
+/// The types of a directive begin with a type, behind the directive's function and in an expression.
+fn types_in_hole(alloc: Global, t: Path, f: Path, g: Path, purpose: Purpose, stack: Stack) -> Answer
+    ensures { IfOk result (λ r. r ≡ begin_types true (Some t) (Frame.Call f (Given.Paths (g ∷ [])) ∷ Frame.Hole purpose ∷ stack)) }
+{
+    match purpose {
+        Purpose::Value => {
+            let mut types = Items::new(alloc);
+            types.push(t)?;
+            over(Mode::Types, Frame::Types(g, types), stack)
+        }
+        other => let_go(other),
+    }
+}
+
 /// The types of a directive begin with a type, behind the directive's function.
 fn types_in(alloc: Global, t: Path, f: Path, g: Path, mut stack: Stack) -> Answer
     ensures { IfOk result (λ r. r ≡ begin_types true (Some t) (Frame.Call f (Given.Paths (g ∷ [])) ∷ stack)) }
@@ -215,11 +246,7 @@ fn types_in(alloc: Global, t: Path, f: Path, g: Path, mut stack: Stack) -> Answe
         return Ok(None);
     };
     match frame {
-        Frame::Hole(Purpose::Value) => {
-            let mut types = Items::new(alloc);
-            types.push(t)?;
-            over(Mode::Types, Frame::Types(g, types), stack)
-        }
+        Frame::Hole(purpose) => types_in_hole(alloc, t, f, g, purpose, stack),
         other => let_go(other),
     }
 }

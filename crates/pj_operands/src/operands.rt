@@ -1,8 +1,9 @@
 //! How a reader goes on from an operand.
-ghost use Rattle.std.specs.Prelude.{◌≡◌, ◌∷◌, ℕ, IfOk};
+ghost use Rattle.std.specs.Prelude.{◌≡◌, ◌∷◌, ℕ, IfOk, None};
 ghost use Rattle.pj_grammar.specs.Frames.{admits, at as state_at, guarded};
 ghost use Rattle.pj_grammar.specs.Operands.{ask, extend, have_assign, have_dot, have_paren, open_apart};
 ghost use Rattle.pj_frames.specs.Tops.{settled_of};
+ghost use Rattle.pj_operands.specs.Values.{below_value};
 
 use crate::calls::{define, open_direct};
 use pj_frames::reading::{Answer, Reading, guarded, guarded_over, let_go, over};
@@ -67,6 +68,16 @@ fn open_word(x: Spot, stack: Stack) -> Answer
     guarded_over(holds, Mode::PathStart, Frame::DirectiveFun, stack)
 }
 
+/// A parenthesis behind a blank and a name that an expression begins with.
+fn open_hole(x: Spot, purpose: Purpose, stack: Stack) -> Answer
+    ensures { IfOk result (λ r. r ≡ open_apart (Head.Name x) (Frame.Hole purpose ∷ stack)) }
+{
+    match purpose {
+        Purpose::Value => open_word(x, stack),
+        other => let_go(other),
+    }
+}
+
 /// A parenthesis behind a blank and a name.
 fn open_name(x: Spot, mut stack: Stack) -> Answer
     ensures { IfOk result (λ r. r ≡ open_apart (Head.Name x) stack) }
@@ -75,7 +86,7 @@ fn open_name(x: Spot, mut stack: Stack) -> Answer
         return Ok(None);
     };
     match frame {
-        Frame::Hole(Purpose::Value) => open_word(x, stack),
+        Frame::Hole(purpose) => open_hole(x, purpose, stack),
         other => let_go(other),
     }
 }
@@ -128,6 +139,7 @@ pub fn ask(alloc: Global, settled: Operand) -> Answer
 }
 
 /// An assignment to a name.
+#[tactic(auto, using(crate::proofs::Assigns::name_on, crate::proofs::Assigns::name_off))]
 fn assign_name(x: Spot, stack: Stack, start: usize, operator: Option<Sign>) -> Answer
     ensures { IfOk result (λ r. r ≡ have_assign (Head.Name x) (Frame.Hole Purpose.Value ∷ stack) start operator) }
 {
@@ -182,21 +194,49 @@ fn assign_value(
     }
 }
 
+/// No frames, where a value is of no more use.
+fn no_frames<T: Drop>(_value: T) -> Option<Stack>
+    ensures { result ≡ None }
+{
+    None
+}
+
+/// The frames below an expression, if it begins a statement or a payload.
+fn below_hole(purpose: Purpose, stack: Stack) -> Option<Stack>
+    ensures { result ≡ below_value (Frame.Hole purpose ∷ stack) }
+{
+    match purpose {
+        Purpose::Value => Some(stack),
+        other => no_frames(other),
+    }
+}
+
+/// The frames below what begins a statement or a payload, if it stands on top.
+fn below_value(mut stack: Stack) -> Option<Stack>
+    ensures { result ≡ below_value stack }
+{
+    let Some(frame) = stack.pop() else {
+        return None;
+    };
+    match frame {
+        Frame::Hole(purpose) => below_hole(purpose, stack),
+        other => no_frames(other),
+    }
+}
+
 /// The sign of an assignment behind an operand.
+#[tactic(auto, using(crate::proofs::Assigns::assign_off))]
 pub fn have_assign(
     alloc: Global,
     head: Head,
-    mut stack: Stack,
+    stack: Stack,
     start: usize,
     operator: Option<Sign>,
 ) -> Answer
     ensures { IfOk result (λ r. r ≡ have_assign head stack start operator) }
 {
-    let Some(frame) = stack.pop() else {
-        return Ok(None);
-    };
-    match frame {
-        Frame::Hole(Purpose::Value) => assign_value(alloc, head, stack, start, operator),
-        other => let_go(other),
+    match below_value(stack) {
+        Some(below) => assign_value(alloc, head, below, start, operator),
+        None => let_go(head),
     }
 }
