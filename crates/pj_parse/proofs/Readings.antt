@@ -117,6 +117,7 @@ module _ (kind : Kind) (own bytes : List ℕ) (ts : List Token) (spelled : IsTok
   stands b = (b.token, b.is, b.starts)
 
   is-deep : {i place : ℕ} {last : Bool} → (d : IsTooDeep (modules_of own ts) kind ts i place last) → IsFault kind own bytes place (deep_kind d.before.token.what)
+  unfolding stands
   is-deep {i} {place} d =
       too_deep i ts spelled (told-deep (others own ts) kind 128 i ts d.before.state d.state d.before.reaches d.before.within (omega arith) d.reaches d.deeper) (stands d.before)
 

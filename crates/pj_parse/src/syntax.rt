@@ -8,8 +8,8 @@ ghost use Rattle.pj_text.specs.Texts.{IsSyntax};
 ghost use Rattle.std.specs.Prelude.{◌≡◌, None, codes, IfErr, IfOk};
 
 use pj_faults::{Fault, ScopeKind, package_fault, script_fault};
-use pj_lex::{SyntaxFault, SyntaxKind, TokenList, tokens};
 use pj_grammar::Parsed;
+use pj_lex::{SyntaxFault, SyntaxKind, TokenList, tokens};
 use pj_making::modules::{ModuleNames, modules_of};
 use pj_reader::fault::{ReadFault, TextKind};
 use pj_reader::reader::read;
@@ -105,7 +105,11 @@ pub fn script_syntax(alloc: Global, bytes: &[u8]) -> Result<Script, SyntaxFault>
 }
 
 /// Tokens as a package, before scopes are asked. `Base` is among the modules.
-fn package_of(alloc: Global, modules: &ModuleNames, tokens: TokenList) -> Result<Package, SyntaxFault>
+fn package_of(
+    alloc: Global,
+    modules: &ModuleNames,
+    tokens: TokenList,
+) -> Result<Package, SyntaxFault>
     requires base { HasBase modules.now }
     ensures read { IfOk result (λ s. Accepts modules.now «package» tokens (parsed.Package s)) }
     ensures fault { IfErr result (Stops modules.now «package» tokens) }
