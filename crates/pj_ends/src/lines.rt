@@ -1,8 +1,9 @@
 //! Statements and items that end.
-ghost use Rattle.std.specs.Prelude.{◌≡◌, ◌∷◌, IfOk};
+ghost use Rattle.std.specs.Prelude.{◌≡◌, ◌∷◌, IfOk, None, true};
 ghost use Rattle.pj_grammar.specs.Closing.{closed_entry, closed_line};
 ghost use Rattle.pj_grammar.specs.Makers.{if_of, one_line};
-ghost use Rattle.pj_ends.specs.Leaving.{left, placed, within};
+ghost use Rattle.pj_ends.specs.Leaving.{Leaves, branch_of, left, placed, within};
+ghost use Rattle.pj_frames.specs.Tops.{on_branch};
 
 use pj_base::NoMemory;
 use pj_frames::reading::{Answer, let_go, over};
@@ -67,21 +68,66 @@ fn end_branch(alloc: Global, condition: Node, before: Lines, line: Line) -> Resu
     if_line(condition, before, rest)
 }
 
-/// The `if` of a branch on top ends, if one stands there.
-fn leave_branch(alloc: Global, standing: Standing) -> Result<Standing, NoMemory>
-    ensures { IfOk result (λ made. within made ≡ left standing.line standing.stack) }
+/// A branch before `elseif`, and the frames below it.
+#[derive(Drop)]
+pub struct Branching {
+    pub condition: Node,
+    pub before: Lines,
+    pub stack: Stack,
+}
+
+/// No branch, where another frame stands on top.
+fn no_branch(_frame: Frame) -> Option<Branching>
+    ensures { result ≡ None }
 {
-    let Standing { line, mut stack } = standing;
-    match stack.pop() {
-        Some(Frame::Branch(condition, before)) => {
-            let line = end_branch(alloc, condition, before, line)?;
-            Ok(Standing { line, stack })
-        }
-        Some(frame) => {
-            stack.push(frame)?;
-            Ok(Standing { line, stack })
-        }
-        None => Ok(Standing { line, stack }),
+    None
+}
+
+/// The branch of a frame, over others.
+fn branch_in(frame: Frame, stack: Stack) -> Option<Branching>
+    ensures { result ≡ branch_of (frame ∷ stack) }
+{
+    match frame {
+        Frame::Branch(condition, before) => Some(Branching {
+            condition,
+            before,
+            stack,
+        }),
+        other => no_branch(other),
+    }
+}
+
+/// The branch on top, if one stands there.
+fn branch_of(mut stack: Stack) -> Option<Branching>
+    ensures { result ≡ branch_of stack }
+{
+    let frame = stack.pop()?;
+    branch_in(frame, stack)
+}
+
+/// The `if` of a branch ends.
+fn leave(alloc: Global, line: Line, branch: Branching) -> Result<Standing, NoMemory>
+    ensures { IfOk result (λ made. within made ≡ left line branch) }
+{
+    let Branching {
+        condition,
+        before,
+        stack,
+    } = branch;
+    let line = end_branch(alloc, condition, before, line)?;
+    Ok(Standing { line, stack })
+}
+
+/// The `if` of the branch on top ends.
+#[tactic(auto, using(crate::proofs::Leaving::a_branch_stands))]
+fn leave_branch(alloc: Global, standing: Standing) -> Result<Standing, NoMemory>
+    requires { on_branch standing.stack ≡ true }
+    ensures { IfOk result (λ made. Leaves standing made) }
+{
+    let Standing { line, stack } = standing;
+    match branch_of(stack) {
+        Some(branch) => leave(alloc, line, branch),
+        None => unreachable!(),
     }
 }
 
