@@ -64,14 +64,7 @@ fn end_while(alloc: Global, condition: Node, lines: Lines, stack: Stack) -> Answ
 }
 
 /// A `for` ends.
-fn end_for(
-    alloc: Global,
-    name: Spot,
-    first: Node,
-    last: Node,
-    lines: Lines,
-    stack: Stack,
-) -> Answer
+fn end_for(alloc: Global, name: Spot, first: Node, last: Node, lines: Lines, stack: Stack) -> Answer
     ensures { IfOk result (λ r. r ≡ close_block (Frame.Block (Opener.For name first last) lines ∷ stack)) }
 {
     let line = for_line(name, first, last, lines)?;
@@ -79,13 +72,7 @@ fn end_for(
 }
 
 /// The definition of a method with a block ends.
-fn end_function(
-    alloc: Global,
-    path: Path,
-    params: ParamList,
-    lines: Lines,
-    stack: Stack,
-) -> Answer
+fn end_function(alloc: Global, path: Path, params: ParamList, lines: Lines, stack: Stack) -> Answer
     ensures { IfOk result (λ r. r ≡ close_block (Frame.Block (Opener.Function path params) lines ∷ stack)) }
 {
     let method = method_with(path, params, lines)?;

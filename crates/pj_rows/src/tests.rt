@@ -168,7 +168,11 @@ fn mistakes_are_told_with_their_place(rt: HostRuntime) -> Result<(), Fail> {
             "syntax m.jl 5:8 LoopName\n",
             3,
         ),
-        ("f(x::Int64) = x\nprintln(f(4)", "syntax m.jl 2:13 Grammar\n", 3),
+        (
+            "f(x::Int64) = x\nprintln(f(4)",
+            "syntax m.jl 2:13 Grammar\n",
+            3,
+        ),
         ("\"é\" # \n$", "syntax m.jl 2:1 Token\n", 3),
         ("using Main", "syntax m.jl 1:7 ModuleName\n", 3),
         ("return 1", "syntax m.jl 1:1 Outside\n", 3),

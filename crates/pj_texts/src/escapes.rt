@@ -30,7 +30,9 @@ fn escaped(letter: char) -> char {
 
 /// One hexadecimal digit more of a number.
 fn with_digit(number: u32, digit: char) -> u32 {
-    number.wrapping_mul(16).wrapping_add(digit.to_digit(16).unwrap_or(0))
+    number
+        .wrapping_mul(16)
+        .wrapping_add(digit.to_digit(16).unwrap_or(0))
 }
 
 /// The text that a line writes: `\n`, `\t`, `\r` and `\u{..}` stand for those characters, a backslash for what follows it, and `‸` for a place.

@@ -11,7 +11,13 @@ pub struct Case {
 }
 
 /// A text between others, so many times.
-fn repeated(alloc: Global, before: &str, piece: &str, count: usize, behind: &str) -> anyhow::Result<String> {
+fn repeated(
+    alloc: Global,
+    before: &str,
+    piece: &str,
+    count: usize,
+    behind: &str,
+) -> anyhow::Result<String> {
     let mut text = String::from_str(alloc, before)?;
     for _turn in 0..count {
         text.push_str(piece)?;
@@ -21,13 +27,27 @@ fn repeated(alloc: Global, before: &str, piece: &str, count: usize, behind: &str
 }
 
 /// A text that nests so deep: something is opened so many times, and closed as often.
-fn nested(alloc: Global, before: &str, open: &str, inside: &str, close: &str, count: usize) -> anyhow::Result<String> {
+fn nested(
+    alloc: Global,
+    before: &str,
+    open: &str,
+    inside: &str,
+    close: &str,
+    count: usize,
+) -> anyhow::Result<String> {
     let opened = repeated(alloc, before, open, count, inside)?;
     repeated(alloc, opened.as_str(), close, count, "")
 }
 
 /// A list of numbers, behind a letter each, with something between them.
-fn numbered(alloc: Global, before: &str, letter: &str, between: &str, count: usize, behind: &str) -> anyhow::Result<String> {
+fn numbered(
+    alloc: Global,
+    before: &str,
+    letter: &str,
+    between: &str,
+    count: usize,
+    behind: &str,
+) -> anyhow::Result<String> {
     let mut text = String::from_str(alloc, before)?;
     for number in 1..count.saturating_add(1) {
         if number > 1 {
@@ -56,7 +76,13 @@ fn right(alloc: Global, what: &'static str, text: String) -> anyhow::Result<Case
 }
 
 /// A text with a fault at this byte.
-fn wrong(alloc: Global, what: &'static str, text: String, kind: &str, place: usize) -> anyhow::Result<Case> {
+fn wrong(
+    alloc: Global,
+    what: &'static str,
+    text: String,
+    kind: &str,
+    place: usize,
+) -> anyhow::Result<Case> {
     let stated = format!(in alloc; "{kind} at {place}")?;
     Ok(Case { what, text, stated })
 }
@@ -124,8 +150,20 @@ pub fn names(alloc: Global) -> anyhow::Result<Vec<Case>> {
     let text = repeated(alloc, "a", "é", 127, " = 1")?;
     cases.push(right(alloc, "a name of 255 bytes and 128 characters", text)?)?;
     let text = repeated(alloc, "", "é", 128, " = 1")?;
-    cases.push(wrong(alloc, "a name of 256 bytes and 128 characters", text, "Token", 0)?)?;
+    cases.push(wrong(
+        alloc,
+        "a name of 256 bytes and 128 characters",
+        text,
+        "Token",
+        0,
+    )?)?;
     let text = String::from_str(alloc, "x = \"é€𝄞\" 1")?;
-    cases.push(wrong(alloc, "a fault behind longer characters", text, "Grammar", 16)?)?;
+    cases.push(wrong(
+        alloc,
+        "a fault behind longer characters",
+        text,
+        "Grammar",
+        16,
+    )?)?;
     Ok(cases)
 }

@@ -84,7 +84,12 @@ fn tree_of(alloc: Global, form: Form, text: &str) -> anyhow::Result<String> {
 }
 
 /// Compares the tree of a text with the stated one, if a text was begun.
-fn compare(rt: &HostRuntime, form: Form, text: &Option<Marked>, stated: &str) -> anyhow::Result<()> {
+fn compare(
+    rt: &HostRuntime,
+    form: Form,
+    text: &Option<Marked>,
+    stated: &str,
+) -> anyhow::Result<()> {
     let Some(marked) = text else {
         return Ok(());
     };

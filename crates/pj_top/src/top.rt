@@ -10,10 +10,10 @@ ghost use Rattle.std.specs.Option.{ForSome};
 ghost use Rattle.pj_top.specs.Plain.{ItemFits, performed, performed_show, shown_by, definition_of, printed_by, line_of};
 ghost use Rattle.pj_top.specs.Stops.{SinkCause, PutsText, GoesOn, EndsAs, RunsTo, Reaches, IfDepotFailedAdds, DepotCause, ending_status, Finishes, Concludes, ReachesTree, RunsTree};
 
-use crate::session::Session;
-use crate::status::Status;
 use crate::lines::status_line;
 use crate::position::position_at;
+use crate::session::Session;
+use crate::status::Status;
 use crate::stop::{Ending, Mistake, Stop};
 use crate::words::run_words;
 use pj_base::NoMemory;
@@ -108,12 +108,7 @@ fn perform<S: Sink>(
 }
 
 /// Evaluates a script's items in order with one budget over all of them.
-fn evaluate<S: Sink>(
-    alloc: Global,
-    tree: Script,
-    steps: u64,
-    out: &mut S,
-) -> Result<Ending, Stop>
+fn evaluate<S: Sink>(alloc: Global, tree: Script, steps: u64, out: &mut S) -> Result<Ending, Stop>
     requires { Formed [] tree.items.items }
     ensures ends { EndsAs (printed_by [] tree.items.items steps) result }
     ensures told { IfSome (S.written out.old) (λ old. PutsText old (printed_by [] tree.items.items steps).text result (S.written out.new)) }
