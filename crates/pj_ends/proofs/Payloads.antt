@@ -1,12 +1,18 @@
 -- What ends on top of what asks to evaluate it, and elsewhere.
-use Rattle.std.proofs.Common.{◌≡◌, true, false, List, [], ◌∷◌, Option, refl}
+use Rattle.std.proofs.Common.{◌≡◌, true, false, List, [], ◌∷◌, Option, None, refl}
+use Rattle.pj_lex.specs.declared.sign.Sign.TheVariants as signs
+use Rattle.pj_lex.specs.declared.token.TokenKind.{TokenKind}
+use Rattle.pj_lex.specs.declared.token.TokenKind.TheVariants as kinds
 use Rattle.pj_syntax.specs.declared.expression.Spot.{Spot}
+use Rattle.pj_grammar.specs.declared.mode.Mode.TheVariants as modes
+use Rattle.pj_grammar.specs.declared.node.Line.{Line}
+use Rattle.pj_grammar.specs.Frames.{at}
 use Rattle.pj_grammar.specs.declared.frame.Frame.{Frame}
 use Rattle.pj_grammar.specs.declared.frame.Frame.TheVariants as frames
 use Rattle.pj_grammar.specs.declared.frame.Target.TheVariants as targets
 use Rattle.pj_grammar.specs.declared.level.Operator.{Operator}
 use Rattle.pj_grammar.specs.declared.node.Node.{Node}
-use Rattle.pj_grammar.specs.Closing.{closed_entry, closed_evaluated, closed_line, closed_method, closed_set, closed_value}
+use Rattle.pj_grammar.specs.Closing.{after_end_at, closed_entry, closed_evaluated, closed_line, closed_method, closed_set, closed_value, is_close}
 use Rattle.pj_grammar.specs.Makers.{Method, assign_of, method_defined, method_evaluated, set_evaluated, value_evaluated, value_of}
 use Rattle.pj_frames.specs.Tops.{on_payload}
 
@@ -35,3 +41,13 @@ pub set_off : (x : Spot) (o : Option Operator) (v : Node) (k : List Frame) → o
     → closed_set (targets.Local x) o v k ≡ closed_line (assign_of (targets.Local x) o v) k
 set_off x o v (frames.Payload m q ∷ k) e = absurd (cc)
 set_off x o v _ e = refl
+
+pub close_on : (s : Line) (k : List Frame) (t : TokenKind) → is_close t ≡ true → after_end_at (modes.PayloadEnd s) k t ≡ at (modes.EvalEnd s) k
+close_on s k (kinds.Sign signs.RightParen) e = refl
+close_on s k (kinds.Sign o) e = absurd (cc)
+close_on s k _ e = absurd (cc)
+
+pub close_off : (s : Line) (k : List Frame) (t : TokenKind) → is_close t ≡ false → after_end_at (modes.PayloadEnd s) k t ≡ None
+close_off s k (kinds.Sign signs.RightParen) e = absurd (cc)
+close_off s k (kinds.Sign o) e = refl
+close_off s k _ e = refl

@@ -1,10 +1,10 @@
 //! What follows statements, items, definitions and what is evaluated.
 ghost use Rattle.std.specs.Prelude.{◌≡◌, IfOk};
-ghost use Rattle.pj_grammar.specs.Closing.{after_end, after_end_at, after_line, ending};
+ghost use Rattle.pj_grammar.specs.Closing.{after_end, after_end_at, after_line, ending, is_close};
 
 use crate::blocks::close_block;
 use crate::closing::{accept_script, open_else, open_else_if};
-use pj_frames::reading::{Answer, Reading, at, let_go, parts};
+use pj_frames::reading::{Answer, Reading, at, gone, let_go, parts};
 use pj_frames::stack::Stack;
 use pj_grammar::{Line, Mode};
 use pj_lex::{Sign, TokenKind};
@@ -34,13 +34,22 @@ pub fn after_line(alloc: Global, stack: Stack, kind: &TokenKind) -> Answer
     }
 }
 
+/// Whether a token is `)`.
+fn is_close(kind: &TokenKind) -> bool
+    ensures { result ≡ is_close kind.now }
+{
+    matches!(kind, TokenKind::Sign(Sign::RightParen))
+}
+
 /// `)` behind what `eval` evaluates.
+#[tactic(auto, using(crate::proofs::Payloads::close_on, crate::proofs::Payloads::close_off))]
 fn after_payload(line: Line, stack: Stack, kind: &TokenKind) -> Option<Reading>
     ensures { result ≡ after_end_at (Mode.PayloadEnd line) stack kind.now }
 {
-    match kind {
-        TokenKind::Sign(Sign::RightParen) => at(Mode::EvalEnd(line), stack),
-        _ => None,
+    if is_close(kind) {
+        at(Mode::EvalEnd(line), stack)
+    } else {
+        gone(line)
     }
 }
 

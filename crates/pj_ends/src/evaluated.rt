@@ -1,7 +1,7 @@
 //! What ends on top of what asks to evaluate it, and elsewhere.
 ghost use Rattle.std.specs.Prelude.{◌≡◌, ◌∷◌, ◌+◌, ◌≤◌, IfOk, OnOk};
 ghost use Rattle.pj_grammar.specs.Closing.{closed_evaluated, closed_line, closed_method, closed_set, closed_value};
-ghost use Rattle.pj_grammar.specs.Makers.{assign_of, eval_of, set_evaluated};
+ghost use Rattle.pj_grammar.specs.Makers.{assign_of, eval_of, set_evaluated, value_evaluated, value_of};
 ghost use Rattle.pj_grammar.specs.Need.{holder_nesting};
 ghost use Rattle.pj_making.specs.Bounds.{most_nesting};
 
@@ -72,16 +72,47 @@ pub fn closed_method(alloc: Global, method: Method, stack: Stack) -> Answer
     }
 }
 
+/// An expression as what is evaluated.
+fn value_in(e: Node) -> Result<Evaluated, NoMemory>
+    ensures { IfOk result (λ made. made ≡ value_evaluated e) }
+{
+    small(e.nesting)?;
+    Ok(value_evaluated(e))
+}
+
+/// An expression ends that is evaluated.
+fn value_payload(alloc: Global, e: Node, stack: Stack) -> Answer
+    ensures { IfOk result (λ r. r ≡ closed_evaluated (value_evaluated e) stack) }
+{
+    let y = value_in(e)?;
+    closed_evaluated(alloc, y, stack)
+}
+
+/// An expression as a statement.
+fn value_line(e: Node) -> Result<Line, NoMemory>
+    ensures { IfOk result (λ made. made ≡ value_of e) }
+{
+    small(e.nesting)?;
+    Ok(value_of(e))
+}
+
+/// An expression ends that is a statement.
+fn value_statement(alloc: Global, e: Node, stack: Stack) -> Answer
+    ensures { IfOk result (λ r. r ≡ closed_line (value_of e) stack) }
+{
+    let line = value_line(e)?;
+    closed_line(alloc, line, stack)
+}
+
 /// An expression ends that is a statement, or is evaluated.
 #[tactic(auto, using(crate::proofs::Payloads::value_on, crate::proofs::Payloads::value_off))]
 pub fn closed_value(alloc: Global, e: Node, stack: Stack) -> Answer
     ensures { IfOk result (λ r. r ≡ closed_value e stack) }
 {
-    small(e.nesting)?;
     if on_payload(stack.layers()) {
-        closed_evaluated(alloc, value_evaluated(e), stack)
+        value_payload(alloc, e, stack)
     } else {
-        closed_line(alloc, value_of(e), stack)
+        value_statement(alloc, e, stack)
     }
 }
 
@@ -122,12 +153,20 @@ fn set_line(
     closed_line(alloc, line, stack)
 }
 
+/// The assignment of a name as what is evaluated.
+fn set_in(name: Spot, e: Node) -> Result<Evaluated, NoMemory>
+    ensures { IfOk result (λ made. made ≡ set_evaluated name e) }
+{
+    small(e.nesting)?;
+    Ok(set_evaluated(name, e))
+}
+
 /// The assignment of a name ends as what is evaluated.
 fn set_payload(alloc: Global, name: Spot, e: Node, stack: Stack) -> Answer
     ensures { IfOk result (λ r. r ≡ closed_evaluated (set_evaluated name e) stack) }
 {
-    small(e.nesting)?;
-    closed_evaluated(alloc, set_evaluated(name, e), stack)
+    let y = set_in(name, e)?;
+    closed_evaluated(alloc, y, stack)
 }
 
 /// The assignment of a name ends, as a statement or as what is evaluated.
