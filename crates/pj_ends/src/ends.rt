@@ -35,7 +35,7 @@ pub fn after_line(alloc: Global, stack: Stack, kind: &TokenKind) -> Answer
 }
 
 /// Whether a token is `)`.
-fn is_close(kind: &TokenKind) -> bool
+pub fn is_close(kind: &TokenKind) -> bool
     ensures { result ≡ is_close kind.now }
 {
     matches!(kind, TokenKind::Sign(Sign::RightParen))

@@ -1,3 +1,4 @@
 pub mod Moving
+pub mod Parens
 pub mod Progress
 pub mod Words

@@ -12,11 +12,11 @@ use crate::items::{
 };
 use crate::lines::{after_return, eval_name_then, global_assign, line, payload};
 use pj_base::{NoMemory, Text};
-use pj_ends::ends::after_line;
+use pj_ends::ends::{after_line, is_close};
 use pj_ends::lines::closed_line;
 use pj_ends::params::start_field;
 use pj_frames::place::Place;
-use pj_frames::reading::{Answer, Reading, at, guarded_over, over, parts};
+use pj_frames::reading::{Answer, Reading, at, gone, guarded_over, let_go, over, parts};
 use pj_frames::stack::Stack;
 use pj_grammar::{Frame, Header, Line, Mode, Purpose};
 use pj_lex::{Sign, Token, TokenKind};
@@ -294,22 +294,26 @@ fn eval_open(stack: Stack, kind: &TokenKind) -> Answer
 }
 
 /// The first `)` behind what `eval` evaluates.
+#[tactic(auto, using(crate::proofs::Parens::close_on, crate::proofs::Parens::close_off))]
 fn payload_end(line: Line, stack: Stack, kind: &TokenKind) -> Option<Reading>
     ensures { result ≡ expect_sign Sign.RightParen kind.now (state_at (Mode.EvalEnd line) stack) }
 {
-    match kind {
-        TokenKind::Sign(Sign::RightParen) => at(Mode::EvalEnd(line), stack),
-        _ => None,
+    if is_close(kind) {
+        at(Mode::EvalEnd(line), stack)
+    } else {
+        gone(line)
     }
 }
 
 /// The second `)` behind what `eval` evaluates.
+#[tactic(auto, using(crate::proofs::Parens::close_on, crate::proofs::Parens::close_off))]
 fn eval_end(alloc: Global, line: Line, stack: Stack, kind: &TokenKind) -> Answer
     ensures { IfOk result (λ r. r ≡ expect_sign Sign.RightParen kind.now (closed_line line stack)) }
 {
-    match kind {
-        TokenKind::Sign(Sign::RightParen) => closed_line(alloc, line, stack),
-        _ => Ok(None),
+    if is_close(kind) {
+        closed_line(alloc, line, stack)
+    } else {
+        let_go(line)
     }
 }
 
