@@ -1,2 +1,2 @@
 f(x::Int64) = x * 10
-println(g(4))
+println(f(4)))
