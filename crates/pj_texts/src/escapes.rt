@@ -36,7 +36,7 @@ fn with_digit(number: u32, digit: char) -> u32 {
 }
 
 /// The text that a line writes: `\n`, `\t`, `\r` and `\u{..}` stand for those characters, a backslash for what follows it, and `‸` for a place.
-pub fn marked(alloc: Global, line: &str) -> Result<Marked, NoMemory> {
+pub fn unescaped(alloc: Global, line: &str) -> Result<Marked, NoMemory> {
     let mut text = String::new(alloc);
     let mut place = None;
     let mut reading = Reading::Plain;

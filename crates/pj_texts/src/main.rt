@@ -5,7 +5,7 @@ mod escapes;
 mod limits;
 
 use anyhow::anyhow;
-use escapes::{Marked, marked};
+use escapes::{Marked, unescaped};
 use limits::{Case, counts, depths, names};
 use pj_base::ByteList;
 use pj_outline::{outline_package, outline_script};
@@ -54,7 +54,7 @@ fn faults(rt: &HostRuntime, file: &str, form: Form) -> anyhow::Result<()> {
         let Some((kind, text)) = line.split_once(' ') else {
             return Err(anyhow!("a line without a kind"));
         };
-        let Marked { text, place } = marked(rt.alloc(), text)?;
+        let Marked { text, place } = unescaped(rt.alloc(), text)?;
         let place = place.unwrap_or(0);
         let stated = format!(in rt.alloc(); "{kind} at {place}")?;
         let found = fault_of(rt.alloc(), form, text.as_str())?;
@@ -110,7 +110,7 @@ fn trees(rt: &HostRuntime, file: &str, form: Form) -> anyhow::Result<()> {
     for line in all.as_str().lines() {
         if let Some(next) = line.strip_prefix("> ") {
             compare(rt, form, &text, stated.as_str())?;
-            text = Some(marked(rt.alloc(), next)?);
+            text = Some(unescaped(rt.alloc(), next)?);
             stated.clear();
             count = count.saturating_add(1);
         } else if !line.starts_with("==") {
