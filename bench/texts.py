@@ -29,7 +29,7 @@ def garbage(length):
     """Bytes of signs, words and letters, in an order that stays the same."""
     source = random.Random(1)
     pieces = ["x", "end", "if", "(", ")", "=", "==", " ", "\n", ";", '"', "1", "é", "function", ".", ",", "::", "@eval", "#"]
-    return "".join(source.choice(pieces) for _ in range(length))[:length]
+    return "".join(source.choice(pieces) for _ in range(length)).encode()[:length].decode(errors="ignore")
 
 
 def texts(length):
