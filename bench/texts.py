@@ -1,7 +1,7 @@
 #!/usr/bin/env python3
 """Times the proved reading of texts of the greatest length, one of each kind, and of texts of a quarter of it.
 
-Each text is run as a script of no form that runs today, or has a fault, so that it is read and nothing more. Prints the
+Each text is a script that does nothing, or one of no form that runs today, or has a fault: so it is read and nothing more. Prints the
 milliseconds and megabytes of each, and the ratio of its time to that of the quarter. It takes no words and changes no
 file of the repository. Ends with 1 where a limit is missed. The program is built by ./vojstrep or by `rt ci`.
 """
