@@ -82,4 +82,5 @@ def main():
         sys.exit("a limit is missed")
 
 
-main()
+if __name__ == "__main__":
+    main()
