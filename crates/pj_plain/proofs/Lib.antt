@@ -8,3 +8,7 @@ pub mod Bools
 pub mod Shown
 pub mod ItemRules
 pub mod Rest
+pub mod Shapes
+pub mod OwnNames
+pub mod UsedNames
+pub mod FormItems

@@ -6,8 +6,8 @@ ghost use Rattle.pj_plain.specs.Held.{no_parts, no_strings};
 ghost use Rattle.pj_plain.specs.Names.{free_name};
 ghost use Rattle.std.specs.Option.{MatchOption};
 
-use crate::expression::text;
 use crate::fault::Refusal;
+use crate::held::text;
 use crate::items::{all_different, body, parameters};
 use crate::tree::Definition;
 use pj_base::Text;

@@ -4,21 +4,12 @@ ghost use Rattle.pj_meaning.specs.Tree.{Text, Expr as Meaning};
 ghost use Rattle.pj_plain.specs.Found.{FoundExpr, FoundOperator, FoundPair, Places};
 ghost use Rattle.pj_plain.specs.Held.{held_expr, held_text};
 
+use crate::held::text;
 use crate::tree::{Expr, Operator};
 use pj_base::{NoMemory, Text};
 use pj_tree::Sym;
 use pj_tree::tree::Expr as Tree;
 use std::alloc::Global;
-
-/// The text of a name that is held. One that is numbered counts as the empty text.
-pub fn text(name: &Sym) -> &str
-    ensures { result.now ≡ held_text name.now }
-{
-    match name {
-        Sym::Text(text) => text.as_str(),
-        Sym::Number(_) => "",
-    }
-}
 
 /// The operator of a function of Base.
 fn operator(owner: &Sym, name: &Sym) -> Option<Operator>

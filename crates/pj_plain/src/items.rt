@@ -9,8 +9,9 @@ ghost use Rattle.pj_plain.specs.Names.{all_different};
 ghost use Rattle.pj_plain.specs.Views.{Reads};
 ghost use Rattle.pj_plain.specs.Plain.{is_int64, plain_block, plain_body, same_texts};
 
-use crate::expression::{expr, place_of, text};
+use crate::expression::{expr, place_of};
 use crate::fault::Refusal;
+use crate::held::text;
 use crate::tree::Expr;
 use pj_base::Text;
 use pj_tree::{Body, Param, Stmt, Sym, TypeRef};

@@ -10,8 +10,8 @@ ghost use Rattle.pj_plain.specs.Held.{held_expr, held_text, no_parts, no_strings
 ghost use Rattle.pj_plain.specs.Plain.{is_empty, is_literal, literals_only, plain_call, plain_show};
 ghost use Rattle.pj_plain.specs.Trees.{Known};
 
-use crate::expression::text;
 use crate::fault::Refusal;
+use crate::held::text;
 use crate::scope::Scope;
 use crate::tree::Item;
 use pj_base::Text;
