@@ -1,0 +1,12 @@
+pub mod Bools
+pub mod Names
+pub mod Exprs
+pub mod Bodies
+pub mod Trees
+pub mod Entries
+pub mod Methods
+pub mod Taken
+pub mod Plain
+pub mod Numbers
+pub mod Read
+pub mod Lowest
