@@ -1,0 +1,186 @@
+//! Loading an image.
+
+ghost use Rattle.std.specs.Prelude.{◌≡◌, ◌≤◌, ◌∷◌, [], ◌++◌, Ok, Some, None, IfOk, IfErr, OnOk, OnErr, length, suc};
+ghost use Rattle.pj_image.specs.File.{file_at};
+ghost use Rattle.pj_image.specs.Formed.{Formed, IsFileOf};
+ghost use Rattle.pj_content.specs.Misfit.{misfit as image_misfit};
+ghost use Rattle.pj_content.specs.Readings.{identity_in};
+ghost use Rattle.pj_session.specs.Events.{Loads};
+ghost use Rattle.pj_session.specs.Things.{image_in};
+ghost use Rattle.pj_session.specs.Uses.{builds, counts_loaded, image_count, no_room};
+ghost use Rattle.pj_session.specs.FromFiles.{held_of as held_of_file, why_refused};
+ghost use Rattle.pj_session.specs.Merged.{held_of, image_name};
+ghost use Rattle.pj_session.specs.Seen.{events_of};
+ghost use Rattle.pj_session.specs.Loading.{Added, Reads, Refuses, Tells};
+
+use crate::index::{image_names, method_list};
+use crate::own::Kind;
+use crate::package::Package;
+use crate::state::Session;
+use pj_base::NoMemory;
+use pj_content::misfit;
+use pj_image::{DecodeFault, Image, decode};
+use std::alloc::Global;
+
+/// Why an image isn't loaded.
+#[derive(Clone, Copy, Debug, PartialEq, Eq)]
+pub enum LoadFault {
+    /// The first section of the file that is at fault: 0 is what stands before the sections, 13 the identity.
+    Format { section: u32 },
+    /// An image of the name is loaded, or the package is the one that is built.
+    Loaded,
+    /// The first entry that is refused.
+    Relocation { entry: u32 },
+    /// No more images can be loaded.
+    Full,
+    /// There was no memory.
+    NoMemory,
+}
+
+/// The image of this name whose file the bytes are.
+fn read(alloc: Global, name: &str, bytes: &[u8]) -> Result<Image, LoadFault>
+    ensures found { IfOk result (λ i. file_at name.now bytes.now ≡ Ok i) }
+    ensures fits { IfOk result (λ i. IsFileOf name.now bytes.now i) }
+    ensures bad { IfErr result (λ fault. Reads name.now bytes.now fault) }
+{
+    match decode(alloc, bytes, name) {
+        Ok(image) => Ok(image),
+        Err(DecodeFault::Format { section }) => Err(LoadFault::Format { section }),
+        Err(DecodeFault::NoMemory) => Err(LoadFault::NoMemory),
+    }
+}
+
+/// The identity that stands at the end of a file.
+fn identity(bytes: &[u8]) -> [u8; 32]
+    requires { 32 ≤ length bytes.now }
+    ensures { result ≡ identity_in bytes.now }
+{
+    let (_, last) = bytes.split_at(bytes.len() - 32);
+    let mut identity = [0; 32];
+    identity.copy_from_slice(last);
+    identity
+}
+
+/// An image with its index.
+fn indexed(alloc: Global, image: Image, identity: [u8; 32]) -> Result<Package, NoMemory>
+    requires formed { Formed image }
+    requires fits { image_misfit image ≡ None }
+    ensures image { IfOk result (λ p. p.image ≡ image) }
+    ensures identity { IfOk result (λ p. p.identity ≡ identity) }
+{
+    let names = image_names(alloc, &image)?;
+    let methods = method_list(alloc, &image)?;
+    Ok(Package {
+        image,
+        identity,
+        names,
+        methods,
+    })
+}
+
+impl Session {
+    /// Whether the module that runs is a package that is built.
+    fn builds(&self) -> bool
+        ensures { result ≡ builds self.now.here }
+    {
+        self.here.as_str() != "Main"
+    }
+
+    /// Whether an image of this name is loaded. A package that is built counts as loaded.
+    fn counts_loaded(&self, name: &str) -> bool
+        ensures { result ≡ counts_loaded self.now.here (events_of self.now) name.now }
+    {
+        self.package(name).is_some() || (self.builds() && self.here.as_str() == name)
+    }
+
+    /// Whether no more images can be loaded. A package that is built counts as one of the 1,024.
+    fn has_no_room(&self) -> bool
+        ensures { result ≡ no_room self.now.here (events_of self.now) }
+    {
+        if self.builds() {
+            self.images.len() >= 1023
+        } else {
+            self.images.len() >= 1024
+        }
+    }
+
+    /// Whether an image of this name may be loaded.
+    fn judge(&self, alloc: Global, name: &str, image: &Image) -> Result<(), LoadFault>
+        ensures fine { OnOk result (why_refused self.now.here (events_of self.now) name.now (image_misfit image.now) ≡ None) }
+        ensures bad { IfErr result (λ fault. Tells fault (why_refused self.now.here (events_of self.now) name.now (image_misfit image.now))) }
+    {
+        if self.counts_loaded(name) {
+            return Err(LoadFault::Loaded);
+        }
+        match misfit(alloc, image) {
+            Ok(None) => {}
+            Ok(Some(entry)) => return Err(LoadFault::Relocation { entry }),
+            Err(_) => return Err(LoadFault::NoMemory),
+        }
+        if self.has_no_room() {
+            return Err(LoadFault::Full);
+        }
+        Ok(())
+    }
+
+    /// Adds an image of a new name. Without memory nothing changes.
+    fn add_image(&mut self, alloc: Global, name: &str, loaded: Package) -> Result<(), NoMemory>
+        requires new { image_in (events_of self.old) name.now ≡ None }
+        requires called { image_name loaded ≡ name.now }
+        ensures added { OnOk result (events_of self.new ≡ events_of self.old ++ Loads (held_of loaded) ∷ []) }
+        ensures unchanged { OnErr result (events_of self.new ≡ events_of self.old) }
+        ensures here { self.new.here ≡ self.old.here }
+        ensures printed { self.new.printed ≡ self.old.printed }
+        ensures spent { self.new.spent ≡ self.old.spent }
+    {
+        self.images.reserve(1)?;
+        self.order.reserve(1)?;
+        self.packages.intern(alloc, name)?;
+        self.images.push(loaded).unwrap();
+        self.order.push(Kind::Image).unwrap();
+        Ok(())
+    }
+
+    /// Adds the image of a file, which isn't refused. Without memory nothing changes.
+    fn add_file(
+        &mut self,
+        alloc: Global,
+        name: &str,
+        bytes: &[u8],
+        image: Image,
+    ) -> Result<(), NoMemory>
+        requires file { IsFileOf name.now bytes.now image }
+        requires fine { why_refused self.old.here (events_of self.old) name.now (image_misfit image) ≡ None }
+        ensures added { OnOk result (events_of self.new ≡ events_of self.old ++ Loads (held_of_file bytes.now image) ∷ []) }
+        ensures unchanged { OnErr result (events_of self.new ≡ events_of self.old) }
+        ensures here { self.new.here ≡ self.old.here }
+        ensures printed { self.new.printed ≡ self.old.printed }
+        ensures spent { self.new.spent ≡ self.old.spent }
+    {
+        let package = indexed(alloc, image, identity(bytes))?;
+        self.add_image(alloc, name, package)
+    }
+
+    /// Loads the image of this name whose file the bytes are, and answers how many images are loaded then. After an
+    /// error nothing has changed. A session that ran out of memory has none here either.
+    pub fn load(&mut self, alloc: Global, name: &str, bytes: Vec<u8>) -> Result<u32, LoadFault>
+        requires { length bytes.items ≤ 67108864 }
+        ensures loaded { IfOk result (λ count. Added self.old name.now bytes.items count self.new) }
+        ensures refused { IfErr result (λ fault. Refuses self.old name.now bytes.items fault) }
+        ensures unchanged { OnErr result (events_of self.new ≡ events_of self.old) }
+        ensures here { self.new.here ≡ self.old.here }
+        ensures printed { self.new.printed ≡ self.old.printed }
+        ensures spent { self.new.spent ≡ self.old.spent }
+    {
+        if self.spent {
+            return Err(LoadFault::NoMemory);
+        }
+        let file = bytes.as_slice();
+        let image = read(alloc, name, file)?;
+        self.judge(alloc, name, &image)?;
+        match self.add_file(alloc, name, file, image) {
+            Ok(()) => Ok(self.images.len() as u32),
+            Err(_) => Err(LoadFault::NoMemory),
+        }
+    }
+}
