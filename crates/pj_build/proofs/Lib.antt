@@ -1,0 +1,15 @@
+pub mod Interning
+pub mod Growing
+pub mod NumbersReads
+pub mod Variants
+pub mod Kept
+pub mod Wires
+pub mod States
+pub mod Contents
+pub mod Fitting
+pub mod Declared
+pub mod Placing
+pub mod Naming
+pub mod TreeFacts
+pub mod TreesBuilt
+pub mod HeadFacts

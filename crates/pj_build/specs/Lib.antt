@@ -1,0 +1,9 @@
+pub mod Strings
+pub mod Numbered
+pub mod Own
+pub mod Read
+pub mod Sections
+pub mod Wiring
+pub mod Wired
+pub mod Built
+pub mod Rows
