@@ -2,7 +2,6 @@
 import os
 import subprocess
 import sys
-import time
 
 TOP = os.path.dirname(os.path.dirname(os.path.abspath(__file__)))
 
@@ -16,9 +15,11 @@ def program(crate):
 
 
 def timed(command, printed, folder=None):
-    """Seconds, the most bytes of memory, and the status of a command in a folder, whose output goes to a file."""
-    start = time.monotonic()
+    """Seconds of processor time, the most bytes of memory, and the status of a command in a folder, whose output goes to a file.
+
+    Other programs that run meanwhile change the time on the clock by much more than this one.
+    """
     child = subprocess.Popen(command, cwd=folder, stdout=printed)
     _, ended, usage = os.wait4(child.pid, 0)
     child.returncode = os.waitstatus_to_exitcode(ended)
-    return time.monotonic() - start, usage.ru_maxrss * 1024, child.returncode
+    return usage.ru_utime + usage.ru_stime, usage.ru_maxrss * 1024, child.returncode
