@@ -1,13 +1,4 @@
-pub mod NamePlaces
-pub mod Pairs
-pub mod Scopes
-pub mod Lists
-pub mod Defined
-pub mod Calls
 pub mod Bools
-pub mod Shown
-pub mod ItemRules
-pub mod Rest
 pub mod Shapes
 pub mod OwnNames
 pub mod UsedNames

@@ -1,9 +1,6 @@
 pub mod Names
-pub mod Trees
 pub mod Plain
 pub mod Held
 pub mod Forms
 pub mod RowsForms
 pub mod Members
-pub mod Found
-pub mod Views

@@ -1,10 +1,9 @@
--- Which scripts are plain: definitions of functions of whole numbers, and calls of them that are printed.
-use Rattle.std.specs.Prelude.{ℕ, zero, suc, Bool, true, false, ◌&&◌, ◌||◌, List, [], ◌∷◌, ◌++◌, map, length, codes, nat_le, ◌==◌, Option, Some, None, is_none}
+-- Which expressions and definitions are plain: those of functions of whole numbers.
+use Rattle.std.specs.Prelude.{ℕ, zero, suc, Bool, true, false, ◌&&◌, ◌||◌, List, [], ◌∷◌, map, length, codes, nat_le, ◌==◌, Option, Some, None}
 use Rattle.std.specs.List.{list_all}
 use Rattle.std.specs.Str.{bytes_eq}
-use Rattle.pj_meaning.specs.Tree.{Text, TypeRef, Param, Expr, Exprs, Int, Local, Call, none, also, Stmt, Value, Block, end, step, Body, body, TopItem, Def, Run}
+use Rattle.pj_meaning.specs.Tree.{Text, TypeRef, Param, Expr, Exprs, Int, Local, Call, none, also, Value, Block, end, step, Body, body}
 use Rattle.pj_plain.specs.Names.{all_different, free_name, is_among}
-use Rattle.pj_plain.specs.Trees.{Known, count_of}
 
 abbrev pub same_texts : List Text → List Text → Bool
 same_texts [] [] = true
@@ -68,32 +67,8 @@ abbrev pub has_count : ℕ → Option ℕ → Bool
 has_count n None = false
 has_count n (Some m) = n == m
 
--- a call of a function that is known, with as many integers as it has parameters
-abbrev pub plain_call : Known → Exprs → Bool
-plain_call known (also (Call m f es) none) = is_empty m && (literals_only es && has_count (how_many es) (count_of f known))
-plain_call known es = false
-
-abbrev pub plain_show : Known → Stmt → Bool
-plain_show known (Value (Call m f es)) = is_empty m && (bytes_eq f (codes "println") && plain_call known es)
-plain_show known s = false
-
 -- a definition whose name is free, and whose parameters are few and different and all Int64
 abbrev pub plain_definition : Text → Text → List Param → Body → Bool
 plain_definition m f params b =
     is_empty m && (free_name f && (nat_le (length params) 16
     && (list_all (λ p. is_int64 p.declared) params && (all_different (names_of params) && plain_body (names_of params) b))))
-
--- Such a definition of a new name; or a call of a name that is known, whose value is printed.
-abbrev pub plain_item : Known → TopItem → Bool
-plain_item known (Def m f params b) = is_none (count_of f known) && plain_definition m f params b
-plain_item known (Run s) = plain_show known s
-plain_item known item = false
-
--- the names that are known behind an item
-abbrev pub known_behind : Known → TopItem → Known
-known_behind known (Def m f params b) = known ++ (f, length params) ∷ []
-known_behind known item = known
-
-abbrev pub plain_items : Known → List TopItem → Bool
-plain_items known [] = true
-plain_items known (item ∷ items) = plain_item known item && plain_items (known_behind known item) items
