@@ -60,14 +60,15 @@ fn one_item(alloc: Global, given: &Item) -> Result<TopItem, NoMemory>
     }
 }
 
+/// The trees of some items, in a list that is made as long as they are at once.
 fn all_items(alloc: Global, given: &[Item]) -> Result<ItemList, NoMemory>
     ensures { IfOk result (λ ts. ts ≡ map item given.now) }
 {
-    let mut all = Items::new(alloc);
+    let mut all = Vec::with_capacity(alloc, given.len())?;
     for one in given {
         all.push(one_item(alloc, one)?)?;
     }
-    Ok(all)
+    Ok(Items::from_vec(all))
 }
 
 fn spellings(alloc: Global, names: &[Spot]) -> Result<TextList, NoMemory>
