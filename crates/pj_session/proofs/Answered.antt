@@ -1,5 +1,5 @@
 -- From an answer to the line that is printed of it.
-use Rattle.std.proofs.Common.{◌≡◌, ℕ, ℤ, true, List, Result, Ok, Err, refl, sym, ap, ◌∙◌, subst}
+use Rattle.std.proofs.Common.{◌≡◌, ℕ, ℤ, true, List, Result, Ok, Err, refl, sym, ap, subst}
 use Rattle.pj_meaning.specs.Tree.{Text, Expr}
 use Rattle.pj_meaning.specs.Values.{Value, Whole}
 use Rattle.pj_meaning.specs.Outcome.{Outcome}
@@ -9,11 +9,9 @@ use Rattle.pj_session.specs.Events.{Event, state_of}
 use Rattle.pj_session.specs.Good.{Good}
 use Rattle.pj_session.specs.Items.{Got, Has, Fails, Short, got_value, is_asked, asked, printed_of, println_item}
 use Rattle.pj_session.specs.Ending.{Answers, Prints}
-use Rattle.pj_session.specs.Found.{Reads}
 use Rattle.pj_session.specs.Tops.{Tops}
 use Rattle.pj_session.specs.declared.end.End.{End}
 use Rattle.pj_session.specs.declared.end.End.TheVariants as ends
-use Rattle.pj_session.specs.declared.value.Value.TheVariants as value
 use Rattle.pj_session.proofs.Shows.{shows}
 use Rattle.pj_session.proofs.Topped.{line_tops}
 

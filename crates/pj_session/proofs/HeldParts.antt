@@ -1,9 +1,10 @@
 -- A definition's parts, from its tree.
-use Rattle.std.proofs.Common.{◌≡◌, ◌∙◌, Result, Ok, Err, IfOk, OnOk, subst, refl, sym, ap, true, false, Bool, not, ◌&&◌, ◌||◌, List, [], ◌∷◌, map, length, nat_eq, nat_le, arith}
+use Rattle.std.proofs.Common.{◌≡◌, ◌∙◌, Result, Ok, Err, IfOk, OnOk, subst, refl, sym, ap, true, false, ◌&&◌, List, [], ◌∷◌, map, length, nat_eq, nat_le, arith}
 use Rattle.std.specs.Prelude.{codes}
 use Rattle.std.specs.List.{list_all}
 use Rattle.std.specs.Str.{bytes_eq}
 use Rattle.std.proofs.lemmas.Bool.{false≢true}
+use Rattle.std.proofs.lemmas.List.{length-map}
 use Rattle.pj_meaning.specs.Tree as tree
 use Rattle.pj_meaning.specs.Tree.{Text, Block, step, end, Body, body}
 use Rattle.pj_words.specs.Words.{is_base_name}
@@ -15,7 +16,7 @@ use Rattle.pj_tree.specs.declared.tree.Sym.{Sym}
 use Rattle.pj_content.specs.Content.{strings_in}
 use Rattle.pj_plain.specs.Held.{held_def, held_expr, held_parts, held_text, no_parts, no_strings}
 use Rattle.pj_plain.specs.Names.{all_different, free_name}
-use Rattle.pj_plain.specs.Plain.{is_empty, is_int64, names_of, plain_block, plain_body, plain_definition, plain_expr, same_texts}
+use Rattle.pj_plain.specs.Plain.{is_empty, is_int64, names_of, plain_body, plain_definition, plain_expr, same_texts}
 use Rattle.pj_session.specs.Events.{Parts, Event, body_of, parts_of}
 use Rattle.pj_session.specs.Good.{Good, PlainFunction}
 use Rattle.pj_session.specs.Merged.{parts_in}
@@ -117,6 +118,9 @@ module _ (d : Defined) (is : plain_definition d.home d.fun d.params d.code ≡ t
     free = defined_free;
     plain = ap (λ names. plain_expr names (parts_of d.code).1) has_one.params ∙ has_one.plain;
   }
+
+  pub defined_count : length (parts_of d.code).0 ≡ length d.params
+  defined_count = ap (λ (names : List Text). length names) has_one.params ∙ length-map d.params (λ (p : tree.Param). p.name)
 
 -- the definition of a tree
 

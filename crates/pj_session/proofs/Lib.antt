@@ -32,3 +32,7 @@ pub mod OwnItems
 pub mod Answered
 pub mod OwnKnown
 pub mod Starting
+pub mod SessionItems
+pub mod FarAsked
+pub mod OwnMore
+pub mod Used

@@ -134,13 +134,24 @@ pub judged : (before : Session) (name bytes : List ℕ) (i : Image) (why : Optio
     → why_refused before.here (events_of before) name (misfit i) ≡ why → Judged before name bytes (image_of (identity_in bytes) i) why
 judged before name bytes i why short e is w = record {
   read = read.held name bytes i short e;
+  called = is.called;
+  alone = read.no_needs i is.formed;
   refused = λ good. refusal_law before.here (events_of before) before.printed good name bytes i is ∙ w;
 }
+
+told_loaded : (loaded : Bool) (wrong : Option ℕ) (full : Bool) → cond loaded (Some script.IsLoaded) (refused_for wrong full) ≡ Some script.IsLoaded → loaded ≡ true
+told_loaded true wrong full h = refl
+told_loaded false (Some k) full h = absurd cc
+told_loaded false None true h = absurd cc
+told_loaded false None false h = absurd cc
 
 pub kept : (before : Session) (name bytes : List ℕ) (i : Image) (fault : LoadFault) → length bytes ≤ 67108864 → file_at name bytes ≡ Ok i → IsFileOf name bytes i
     → Tells fault (why_refused before.here (events_of before) name (misfit i)) → Refuses before name bytes fault
 kept before name bytes i (faults.Format k) short e is t = absurd t
-kept before name bytes i faults.Loaded short e is t = record { image = image_of (identity_in bytes) i; judged = judged before name bytes i (Some script.IsLoaded) short e is t }
+kept before name bytes i faults.Loaded short e is t = (
+  record { image = image_of (identity_in bytes) i; judged = judged before name bytes i (Some script.IsLoaded) short e is t },
+  told_loaded (counts_loaded before.here (events_of before) name) (misfit i) (no_room before.here (events_of before)) t,
+)
 kept before name bytes i (faults.Relocation k) short e is t = record { image = image_of (identity_in bytes) i; judged = judged before name bytes i (Some (script.Relocation k)) short e is t }
 kept before name bytes i faults.Full short e is t = record { image = image_of (identity_in bytes) i; judged = judged before name bytes i (Some script.Full) short e is t }
 kept before name bytes i faults.NoMemory short e is t = tt

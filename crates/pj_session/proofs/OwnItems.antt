@@ -1,12 +1,10 @@
 -- Constants of expressions, as the meaning binds them.
-use Rattle.std.proofs.Common.{◌≡◌, ◌<◌, to_z, of_z, w64, ℕ, ℤ, Bool, true, false, ◌&&◌, ◌||◌, List, [], ◌∷◌, ◌++◌, None, Result, Ok, Err, IfErr, OnOk, OnErr, refl, sym, ap, ◌∙◌, subst}
-use Rattle.std.proofs.lemmas.Bool.{false≢true}
-use Rattle.pj_meaning.specs.Tree.{Text, Expr, Exprs, Call, Const}
-use Rattle.pj_meaning.specs.Tree as tree
+use Rattle.std.proofs.Common.{◌≡◌, ◌<◌, to_z, of_z, w64, ℕ, ℤ, true, false, ◌||◌, List, [], ◌∷◌, ◌++◌, None, Result, Ok, Err, IfErr, OnOk, OnErr, refl, sym, ap, ◌∙◌, subst}
+use Rattle.pj_meaning.specs.Tree.{Text, Expr, Const}
 use Rattle.pj_meaning.specs.Values.{Value}
 use Rattle.pj_meaning.specs.Outcome.{Outcome}
 use Rattle.pj_meaning.specs.Top.{top}
-use Rattle.pj_plain.specs.Plain.{is_empty, plain_expr}
+use Rattle.pj_plain.specs.Plain.{plain_expr}
 use Rattle.pj_words.specs.Words.{is_base_name}
 use Rattle.pj_session.specs.Numbers.{number_in}
 use Rattle.pj_session.specs.States.{run}
@@ -15,13 +13,11 @@ use Rattle.pj_session.specs.Things.{own_in}
 use Rattle.pj_session.specs.Good.{Good}
 use Rattle.pj_session.specs.Items.{Got, got_number, is_call, is_valued, valued, const_ends}
 use Rattle.pj_session.specs.Ending.{Answers}
-use Rattle.pj_session.specs.OwnItems.{is_own_call, is_valued_here}
 use Rattle.pj_session.specs.Tops.{Tops}
 use Rattle.pj_session.specs.declared.end.End.{End}
 use Rattle.pj_session.specs.declared.end.End.TheVariants as ends
 use Rattle.std.specs.Int.Signed.{mag}
 use Rattle.pj_session.proofs.Operands.{same_integer}
-use Rattle.pj_session.proofs.Texts.{and_left, and_right}
 use Rattle.pj_session.proofs.Defines.{binds}
 use Rattle.pj_session.proofs.Topped.{no_memory_keeps}
 use Rattle.pj_session.proofs.Bound.{bound_tops, failed_tops}

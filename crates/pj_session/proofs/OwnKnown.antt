@@ -20,8 +20,8 @@ use Rattle.pj_words.specs.Words.{is_base_name}
 use Rattle.pj_session.specs.Events.{Event, Defines, Binds, Loads}
 use Rattle.pj_session.specs.Things.{Calls, Holds, own_in}
 use Rattle.pj_session.specs.Good.{Good, GoodEvents}
-use Rattle.pj_session.specs.Items.{may_name}
-use Rattle.pj_session.specs.OwnItems.{is_own_call, is_valued_here, known_in, own_item}
+use Rattle.pj_session.specs.OwnItems.{is_own_call, is_valued_here, known_in}
+use Rattle.pj_session.specs.SessionItems.{is_far, session_item}
 use Rattle.pj_session.proofs.HeldParts.{not_bases}
 use Rattle.pj_session.proofs.Texts.{same_text, bytes_eq-comm, and_left, and_right}
 
@@ -85,28 +85,39 @@ known_constant here es good e is = one (plain_expr [] e) is
     one true h = refl
     one false h = known_call here es good e h
 
-pub known_shown : (here : Text) (es : List Event) → GoodEvents here es → (s : Stmt) → option_map_or (own_call (known_in es)) (printed s) false ≡ true → option_map_or is_own_call (printed s) false ≡ true
-known_shown here es good s is = one (printed s) is
+pub known_printed : (here : Text) (es : List Event) → GoodEvents here es → (s : Stmt) → option_map_or (λ e. own_call (known_in es) e || is_far e) (printed s) false ≡ true → option_map_or (λ e. is_own_call e || is_far e) (printed s) false ≡ true
+known_printed here es good s is = one (printed s) is
   where
-    one : (o : Option Expr) → option_map_or (own_call (known_in es)) o false ≡ true → option_map_or is_own_call o false ≡ true
-    one (Some e) h = known_call here es good e h
+    one : (o : Option Expr) → option_map_or (λ e. own_call (known_in es) e || is_far e) o false ≡ true → option_map_or (λ e. is_own_call e || is_far e) o false ≡ true
     one None h = absurd (false≢true h)
+    one (Some e) h = two (own_call (known_in es) e) refl h
+      where
+        two : (t : Bool) → own_call (known_in es) e ≡ t → (t || is_far e) ≡ true → (is_own_call e || is_far e) ≡ true
+        two true own h' = ap (λ b. b || is_far e) (known_call here es good e own)
+        two false own h' = three (is_own_call e)
+          where
+            three : (u : Bool) → (u || is_far e) ≡ true
+            three true = refl
+            three false = h'
 
 -- items, by what their trees are
 
 pub constant_as : (P : tree.TopItem → Type 0) (here : Text) (es : List Event) (it : TopItem) (x : Sym) (v : declared.Expr) (name : Text) → it ≡ item.Const x v → name ≡ held_text x
-    → own_item (known_in es) (held_item it) ≡ true → Good here es
+    → session_item (known_in es) (held_item it) ≡ true → Good here es
     → (is_valued_here (held_expr v) ≡ true → is_base_name name ≡ false → Good here es → P (tree.Const name (held_expr v))) → P (held_item it)
 constant_as P here es it x v name same same_name form good h =
-    let there : own_item (known_in es) (held_item (item.Const x v)) ≡ true = subst (λ (i : TopItem). own_item (known_in es) (held_item i) ≡ true) same form in
+    let there : session_item (known_in es) (held_item (item.Const x v)) ≡ true = subst (λ (i : TopItem). session_item (known_in es) (held_item i) ≡ true) same form in
     let behind : (free_name (held_text x) && may_be_constant (known_in es) (held_expr v)) ≡ true = and_right (is_new (held_text x) (known_in es)) _ there in
     let valued : is_valued_here (held_expr v) ≡ true = known_constant here es good.each (held_expr v) (and_right (free_name (held_text x)) _ behind) in
     let free : is_base_name name ≡ false = ap is_base_name same_name ∙ not_bases (held_text x) (and_left (free_name (held_text x)) _ behind) in
     subst (λ (i : TopItem). P (held_item i)) (sym same) (subst (λ (n : Text). P (tree.Const n (held_expr v))) same_name (h valued free good))
 
+pub constant_free : (es : List Event) (x : Text) (e : Expr) → session_item (known_in es) (tree.Const x e) ≡ true → is_base_name x ≡ false
+constant_free es x e form = not_bases x (and_left (free_name x) _ (and_right (is_new x (known_in es)) _ form))
+
 pub shown_as : (P : tree.TopItem → Type 0) (here : Text) (es : List Event) (it : TopItem) (s : statements.Stmt) → it ≡ item.Run s
-    → own_item (known_in es) (held_item it) ≡ true → Good here es
-    → (option_map_or is_own_call (printed (held_stmt s)) false ≡ true → Good here es → P (tree.Run (held_stmt s))) → P (held_item it)
+    → session_item (known_in es) (held_item it) ≡ true → Good here es
+    → (option_map_or (λ e. is_own_call e || is_far e) (printed (held_stmt s)) false ≡ true → Good here es → P (tree.Run (held_stmt s))) → P (held_item it)
 shown_as P here es it s same form good h =
-    let there : own_item (known_in es) (held_item (item.Run s)) ≡ true = subst (λ (i : TopItem). own_item (known_in es) (held_item i) ≡ true) same form in
-    subst (λ (i : TopItem). P (held_item i)) (sym same) (h (known_shown here es good.each (held_stmt s) there) good)
+    let there : session_item (known_in es) (held_item (item.Run s)) ≡ true = subst (λ (i : TopItem). session_item (known_in es) (held_item i) ≡ true) same form in
+    subst (λ (i : TopItem). P (held_item i)) (sym same) (h (known_printed here es good.each (held_stmt s) there) good)

@@ -1,6 +1,6 @@
 -- From what is printed to what the meaning's items do.
-use Rattle.std.proofs.Common.{◌≡◌, ℕ, ℤ, true, false, List, [], ◌++◌, ◌∷◌, None, Result, Ok, Err, refl, sym, ap, ◌∙◌, subst}
-use Rattle.pj_meaning.specs.Tree.{Text, Exprs, Call}
+use Rattle.std.proofs.Common.{◌≡◌, ℕ, false, List, [], ◌++◌, ◌∷◌, None, Result, Ok, Err, refl, sym, ap, ◌∙◌, subst}
+use Rattle.pj_meaning.specs.Tree.{Text}
 use Rattle.pj_meaning.specs.Values.{Value}
 use Rattle.pj_meaning.specs.Outcome.{Outcome, Gives, Raises, Stops}
 use Rattle.pj_meaning.specs.Top.{top}
@@ -9,14 +9,13 @@ use Rattle.pj_session.specs.Events.{Parts, Event, Defines, state_of}
 use Rattle.pj_words.specs.Words.{is_base_name}
 use Rattle.pj_session.specs.Things.{own_in}
 use Rattle.pj_session.specs.Good.{Good, PlainFunction}
-use Rattle.pj_session.specs.Items.{Got, Has, Fails, Short, got_value, called_in, integers, is_asked, asked, printed_of, line_ends, line_of, println_item, define_item}
+use Rattle.pj_session.specs.Items.{Got, Has, Fails, Short, line_ends, line_of, define_item}
 use Rattle.pj_session.specs.Ending.{Prints}
 use Rattle.pj_session.specs.Tops.{Tops}
 use Rattle.pj_session.specs.declared.end.End.{End}
 use Rattle.pj_session.specs.declared.end.End.TheVariants as ends
 use Rattle.pj_session.proofs.More.{state_printed, state_more, good_more}
 use Rattle.pj_session.proofs.Defines.{defines}
-use Rattle.pj_session.proofs.Shows.{shows}
 
 module _ (here : Text) (es : List Event) (old new : Text) (good : Good here es) where
   same_state : new ≡ old → state_of here es new ≡ state_of here es old
@@ -39,20 +38,6 @@ module _ (here : Text) (es : List Event) (old new : Text) (good : Good here es) 
   line_tops Short (Err ends.Steps) left h = same_state h
   line_tops Short (Err ends.Trap) left h = absurd h
   line_tops Short (Err ends.NoMemory) left h = same_state h
-
-  pub println_tops : {A : Type 0} (name : Text) (args : Exprs) (zs : List ℤ) (result : Result A End) (left after : ℕ) → zs ≡ integers args → is_asked (Call [] name args) ≡ true
-      → Prints (printed_of (got_value (called_in here es [] name zs left))) result old new after
-      → Tops (top (println_item (Call [] name args)) (run (state_of here es old) left)) result (state_of here es old) (state_of here es new) after
-  println_tops {A} name args zs result left after same is h =
-      let h' : Prints (printed_of (asked here es (Call [] name args) left)) result old new after = subst (λ (l : List ℤ). Prints (printed_of (got_value (called_in here es [] name l left))) result old new after) same h in
-      subst (λ (o : Outcome Value). Tops o result (state_of here es old) (state_of here es new) after) (sym (shows here es old good (Call [] name args) left is)) (line_tops (printed_of (asked here es (Call [] name args) left)) result after h')
-
-pub println_as : {A : Type 0} (here here' : Text) (es es' : List Event) (old new : Text) (name : Text) (args : Exprs) (zs : List ℤ) (result : Result A End) (left after : ℕ) → here' ≡ here → es' ≡ es → zs ≡ integers args
-    → Prints (printed_of (got_value (called_in here es [] name zs left))) result old new after
-    → is_asked (Call [] name args) ≡ true → Good here es
-    → Tops (top (println_item (Call [] name args)) (run (state_of here es old) left)) result (state_of here es old) (state_of here' es' new) after
-println_as {A} here here' es es' old new name args zs result left after same_here same_events same h is good =
-    rw (same_here, same_events) (println_tops here es old new good name args zs result left after same is h)
 
 -- a definition adds its event
 pub define_tops : {A : Type 0} (here here' : Text) (es es' : List Event) (printed printed' : Text) (name : Text) (d : Parts) (done : A) → here' ≡ here → printed' ≡ printed → es' ≡ es ++ Defines name d.0 d.1 ∷ [] → own_in es name ≡ None

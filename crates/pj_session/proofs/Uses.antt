@@ -64,17 +64,23 @@ module _ (s : State) (files : Files) (name : Text) (image : Image) (left : ℕ) 
       one None true = refl
       one None false = refl
 
-  pub refused : (why : Refusal) → refused_for (image.misfit s) (is_full s) ≡ Some why → use_from files name (run s left) ≡ ends (Refused (image_file name) why) (run s left)
+  pub refused_as : (why : Refusal) → refusal image s ≡ Some why → use_from files name (run s left) ≡ ends (Refused (image_file name) why) (run s left)
   unfolding then_run
-  refused why is =
-      comes_to ∙ ap (λ o. then_run (load_unless o image (run s left)) (start_image image.name)) (why_not ∙ is)
+  refused_as why is =
+      comes_to ∙ ap (λ o. then_run (load_unless o image (run s left)) (start_image image.name)) is
       ∙ ap (λ n. ends (Refused (image_file n) why) (run s left)) same
 
-  pub accepted : refused_for (image.misfit s) (is_full s) ≡ None → use_from files name (run s left) ≡ start_image name (run (with_event s (Loads (held_by image s))) left)
+  pub accepted_as : refusal image s ≡ None → use_from files name (run s left) ≡ start_image name (run (with_event s (Loads (held_by image s))) left)
   unfolding then_run
-  accepted is =
-      comes_to ∙ ap (λ o. then_run (load_unless o image (run s left)) (start_image image.name)) (why_not ∙ is)
+  accepted_as is =
+      comes_to ∙ ap (λ o. then_run (load_unless o image (run s left)) (start_image image.name)) is
       ∙ ap (λ n. start_image n (run (add (held_by image s) s) left)) same
+
+  pub refused : (why : Refusal) → refused_for (image.misfit s) (is_full s) ≡ Some why → use_from files name (run s left) ≡ ends (Refused (image_file name) why) (run s left)
+  refused why is = refused_as why (why_not ∙ is)
+
+  pub accepted : refused_for (image.misfit s) (is_full s) ≡ None → use_from files name (run s left) ≡ start_image name (run (with_event s (Loads (held_by image s))) left)
+  accepted is = accepted_as (why_not ∙ is)
 
 -- after events
 

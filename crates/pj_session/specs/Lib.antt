@@ -23,3 +23,7 @@ pub mod Loading
 pub mod OwnItems
 pub mod Found
 pub mod Starting
+pub mod SessionItems
+pub mod Using
+pub mod Spent
+pub mod Fetching

@@ -1,8 +1,7 @@
--- Items of the module that runs, which name no other module.
+-- Definitions and constants of the module that runs, which name no other module.
 use Rattle.std.specs.Prelude.{Bool, false, ◌&&◌, ◌||◌, List, [], ◌∷◌, Some, None, length}
-use Rattle.std.specs.Option.{option_map_or}
-use Rattle.pj_meaning.specs.Tree.{Expr, Call, TopItem, Def, Const, Run}
-use Rattle.pj_plain.specs.Forms.{Known, is_new, may_be_constant, own_call, printed}
+use Rattle.pj_meaning.specs.Tree.{Expr, Call, TopItem, Def, Const}
+use Rattle.pj_plain.specs.Forms.{Known, is_new, may_be_constant}
 use Rattle.pj_plain.specs.Names.{free_name}
 use Rattle.pj_plain.specs.Plain.{is_empty, plain_definition, plain_expr}
 use Rattle.pj_session.specs.Events.{Event, Defines, Binds, Loads}
@@ -24,9 +23,8 @@ known_in (Defines f ps e ∷ es) = (f, Some (length ps)) ∷ known_in es
 known_in (Binds x z ∷ es) = (x, None) ∷ known_in es
 known_in (Loads held ∷ es) = known_in es
 
--- a plain definition of a new name, a constant of one, or a printed call of a function that is known
+-- a plain definition of a new name, or a constant of one
 abbrev pub own_item : Known → TopItem → Bool
 own_item known (Def m f params b) = is_new f known && plain_definition m f params b
 own_item known (Const x e) = is_new x known && (free_name x && may_be_constant known e)
-own_item known (Run s) = option_map_or (own_call known) (printed s) false
 own_item known item = false

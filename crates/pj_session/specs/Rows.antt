@@ -1,6 +1,6 @@
 -- Worked rows over an image: package P with `f(x::Int64) = x + 1` and `const K = 5`.
 use Rattle.std.specs.Prelude.{◌≡◌, ℕ, ℤ, pos, List, [], ◌∷◌, codes}
-use Rattle.pj_meaning.specs.Tree.{Text, Expr, Int, Local, Call, Global, none, also}
+use Rattle.pj_meaning.specs.Tree.{Text, Expr, Exprs, Int, Local, Call, Global, none, also}
 use Rattle.pj_meaning.specs.Names.{id, main_name, base_name, int_type}
 use Rattle.pj_meaning.specs.Values.{Value, Whole, Function}
 use Rattle.pj_meaning.specs.State.{Constant}
@@ -9,13 +9,17 @@ use Rattle.pj_meaning.specs.Calls.{call_named, call_function}
 use Rattle.pj_meaning.specs.Evaluation.{enter_at}
 use Rattle.pj_meaning.specs.Packages.{Held}
 use Rattle.pj_meaning.specs.Top.{top}
-use Rattle.pj_plain.specs.Trees.{literals}
 use Rattle.pj_words.specs.Words.{base_names, is_among}
 use Rattle.pj_session.specs.Numbers.{charge, with_number}
 use Rattle.pj_session.specs.States.{run}
 use Rattle.pj_session.specs.Events.{Parts, body_of, ints, Event, Defines, Binds, Loads, state_of}
 use Rattle.pj_session.specs.Good.{Good}
 use Rattle.pj_session.specs.Items.{Got, Has, Fails, Short, asked, printed_of, line_ends, println_item, valued}
+
+-- integers as arguments
+abbrev literals : List ℤ → Exprs
+literals [] = none
+literals (z ∷ zs) = also (Int z) (literals zs)
 
 abbrev pub package_p : Text
 package_p = codes "P"

@@ -1,6 +1,6 @@
 //! Constants of the module that runs.
 
-ghost use Rattle.std.specs.Prelude.{◌≡◌, ◌∷◌, ◌++◌, [], true, false, map, None, IfErr, OnOk, OnErr};
+ghost use Rattle.std.specs.Prelude.{◌≡◌, ◌∷◌, ◌++◌, ℤ, [], true, false, map, None, IfErr, OnOk, OnErr};
 ghost use Rattle.pj_meaning.specs.Tree.{Call, Const};
 ghost use Rattle.pj_meaning.specs.Top.{top};
 ghost use Rattle.pj_tree.specs.Reads.{exprs_of};
@@ -51,6 +51,8 @@ impl Session {
         requires new { own_in (events_of self.old) name.now ≡ None }
         ensures tops { is_call (Call [] function.now (exprs_of (map held_expr arguments.now))) ≡ true → is_base_name name.now ≡ false → Good self.old.here (events_of self.old) → Tops (top (Const name.now (Call [] function.now (exprs_of (map held_expr arguments.now)))) (run (state_seen self.old) left.old)) result (state_seen self.old) (state_seen self.new) left.new }
         ensures good { OnOk result (Good self.old.here (events_of self.old) → is_base_name name.now ≡ false → Good self.new.here (events_of self.new)) }
+        ensures added { OnOk result ((value : ℤ) × (events_of self.new ≡ events_of self.old ++ Binds name.now value ∷ [])) }
+        ensures unchanged { OnErr result (events_of self.new ≡ events_of self.old) }
         ensures printed { self.new.printed ≡ self.old.printed }
         ensures here { self.new.here ≡ self.old.here }
         ensures spent { self.new.spent ≡ self.old.spent }

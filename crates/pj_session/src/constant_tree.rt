@@ -1,12 +1,13 @@
 //! Constants by their trees.
 
-ghost use Rattle.std.specs.Prelude.{◌≡◌, [], true, false, None, OnOk};
+ghost use Rattle.std.specs.Prelude.{◌≡◌, ◌∷◌, ◌++◌, ℤ, [], true, false, None, OnOk, OnErr};
 ghost use Rattle.pj_meaning.specs.Tree.{Const};
 ghost use Rattle.pj_meaning.specs.Top.{top};
 ghost use Rattle.pj_plain.specs.Held.{held_expr};
 ghost use Rattle.pj_plain.specs.Plain.{plain_expr};
 ghost use Rattle.pj_words.specs.Words.{is_base_name};
 ghost use Rattle.pj_session.specs.Ending.{Answers};
+ghost use Rattle.pj_session.specs.Events.{Binds};
 ghost use Rattle.pj_session.specs.Good.{Good};
 ghost use Rattle.pj_session.specs.Items.{got_number};
 ghost use Rattle.pj_session.specs.Numbers.{number_in};
@@ -46,6 +47,8 @@ impl Session {
         requires new { own_in (events_of self.old) name.now ≡ None }
         ensures tops { plain_expr [] (held_expr e.now) ≡ true → is_base_name name.now ≡ false → Good self.old.here (events_of self.old) → Tops (top (Const name.now (held_expr e.now)) (run (state_seen self.old) left.old)) result (state_seen self.old) (state_seen self.new) left.new }
         ensures good { OnOk result (Good self.old.here (events_of self.old) → is_base_name name.now ≡ false → Good self.new.here (events_of self.new)) }
+        ensures added { OnOk result ((value : ℤ) × (events_of self.new ≡ events_of self.old ++ Binds name.now value ∷ [])) }
+        ensures unchanged { OnErr result (events_of self.new ≡ events_of self.old) }
         ensures printed { self.new.printed ≡ self.old.printed }
         ensures here { self.new.here ≡ self.old.here }
         ensures spent { self.new.spent ≡ self.old.spent }
@@ -67,6 +70,8 @@ impl Session {
         requires new { own_in (events_of self.old) name.now ≡ None }
         ensures tops { is_valued_here (held_expr e.now) ≡ true → is_base_name name.now ≡ false → Good self.old.here (events_of self.old) → Tops (top (Const name.now (held_expr e.now)) (run (state_seen self.old) left.old)) result (state_seen self.old) (state_seen self.new) left.new }
         ensures good { OnOk result (Good self.old.here (events_of self.old) → is_base_name name.now ≡ false → Good self.new.here (events_of self.new)) }
+        ensures added { OnOk result ((value : ℤ) × (events_of self.new ≡ events_of self.old ++ Binds name.now value ∷ [])) }
+        ensures unchanged { OnErr result (events_of self.new ≡ events_of self.old) }
         ensures printed { self.new.printed ≡ self.old.printed }
         ensures here { self.new.here ≡ self.old.here }
         ensures spent { self.new.spent ≡ self.old.spent }

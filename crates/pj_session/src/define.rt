@@ -1,8 +1,9 @@
 //! Definitions in the module that runs.
 
-ghost use Rattle.std.specs.Prelude.{◌≡◌, ℕ, false, None, OnOk};
+ghost use Rattle.std.specs.Prelude.{◌≡◌, ◌∷◌, ◌++◌, [], ℕ, false, None, OnOk, OnErr};
 ghost use Rattle.pj_meaning.specs.Top.{top};
 ghost use Rattle.pj_words.specs.Words.{is_base_name};
+ghost use Rattle.pj_session.specs.Events.{Defines};
 ghost use Rattle.pj_session.specs.Good.{Good, PlainFunction};
 ghost use Rattle.pj_session.specs.Items.{define_item};
 ghost use Rattle.pj_session.specs.Merged.{parts_in};
@@ -22,6 +23,8 @@ impl Session {
         requires new { own_in (events_of self.old) name.now ≡ None }
         ensures tops { Good self.old.here (events_of self.old) → is_base_name name.now ≡ false → (left : ℕ) → Tops (top (define_item name.now (parts_in definition)) (run (state_seen self.old) left)) result (state_seen self.old) (state_seen self.new) left }
         ensures good { OnOk result (Good self.old.here (events_of self.old) → PlainFunction name.now (parts_in definition) → Good self.new.here (events_of self.new)) }
+        ensures added { OnOk result (events_of self.new ≡ events_of self.old ++ Defines name.now (parts_in definition).0 (parts_in definition).1 ∷ []) }
+        ensures unchanged { OnErr result (events_of self.new ≡ events_of self.old) }
         ensures printed { self.new.printed ≡ self.old.printed }
         ensures here { self.new.here ≡ self.old.here }
         ensures spent { self.new.spent ≡ self.old.spent }

@@ -1,12 +1,12 @@
 //! Definitions by their trees.
 
-ghost use Rattle.std.specs.Prelude.{◌≡◌, ℕ, [], true, None, IfOk, OnOk};
+ghost use Rattle.std.specs.Prelude.{◌≡◌, ◌∷◌, ◌++◌, ℕ, [], true, None, IfOk, OnOk, OnErr};
 ghost use Rattle.pj_meaning.specs.Tree.{Nothing};
 ghost use Rattle.pj_meaning.specs.Top.{top};
 ghost use Rattle.pj_tree.specs.Reads.{as_body, body_of, part_of, texts_of};
 ghost use Rattle.pj_plain.specs.Held.{held_def, held_expr, held_parts, no_parts, no_strings};
 ghost use Rattle.pj_plain.specs.Plain.{plain_definition};
-ghost use Rattle.pj_session.specs.Events.{parts_of};
+ghost use Rattle.pj_session.specs.Events.{Defines, parts_of};
 ghost use Rattle.pj_session.specs.Good.{Good};
 ghost use Rattle.pj_session.specs.Items.{define_item};
 ghost use Rattle.pj_session.specs.Merged.{parts_in};
@@ -90,6 +90,8 @@ impl Session {
         requires new { own_in (events_of self.old) (held_parts d.now).fun ≡ None }
         ensures tops { let parts = held_parts d.now in plain_definition parts.home parts.fun parts.params parts.code ≡ true → Good self.old.here (events_of self.old) → (left : ℕ) → Tops (top (held_def d.now) (run (state_seen self.old) left)) result (state_seen self.old) (state_seen self.new) left }
         ensures good { OnOk result (let parts = held_parts d.now in plain_definition parts.home parts.fun parts.params parts.code ≡ true → Good self.old.here (events_of self.old) → Good self.new.here (events_of self.new)) }
+        ensures added { OnOk result (let parts = parts_of (held_parts d.now).code in events_of self.new ≡ events_of self.old ++ Defines (held_parts d.now).fun parts.0 parts.1 ∷ []) }
+        ensures unchanged { OnErr result (events_of self.new ≡ events_of self.old) }
         ensures printed { self.new.printed ≡ self.old.printed }
         ensures here { self.new.here ≡ self.old.here }
         ensures spent { self.new.spent ≡ self.old.spent }

@@ -1,9 +1,9 @@
 //! Names of modules that are written: what a read or a call of one gives, and the line that is printed of it.
 
-ghost use Rattle.std.specs.Prelude.{◌≡◌, ℕ, ℤ, true, option_map};
+ghost use Rattle.std.specs.Prelude.{◌≡◌, ◌++◌, ℕ, ℤ, true, option_map};
 ghost use Rattle.pj_meaning.specs.Names.{id};
 ghost use Rattle.pj_meaning.specs.Top.{top};
-ghost use Rattle.pj_meaning.specs.Tree.{Expr};
+ghost use Rattle.pj_meaning.specs.Tree.{Expr, Text};
 ghost use Rattle.pj_session.specs.Ending.{Answers, Prints};
 ghost use Rattle.pj_session.specs.Good.{Good};
 ghost use Rattle.pj_session.specs.Items.{Got, Has, asked, call_of, got_value, is_asked, printed_of, println_item, read_of};
@@ -101,6 +101,7 @@ impl Session {
         left: &mut u64,
     ) -> Result<(), End>
         ensures tops { (e : Expr) (before : ℕ) → is_asked e ≡ true → Good self.old.here (events_of self.old) → Reads (asked self.old.here (events_of self.old) e before) answer.entry left.old → Tops (top (println_item e) (run (state_seen self.old) before)) result (state_seen self.old) (state_seen self.new) left.new }
+        ensures printed { (text : Text) × (self.new.printed ≡ self.old.printed ++ text) }
         ensures events { events_of self.new ≡ events_of self.old }
         ensures here { self.new.here ≡ self.old.here }
         ensures spent { self.new.spent ≡ self.old.spent }

@@ -2,6 +2,7 @@
 #![tactic(auto)]
 
 pub mod arguments;
+pub mod asked;
 pub mod call;
 pub mod called_here;
 pub mod constant;
@@ -25,7 +26,8 @@ pub mod start;
 pub mod state;
 pub mod thing;
 pub mod things;
-pub mod top_here;
+pub mod top;
+pub mod using;
 pub mod value;
 
 ghost use Rattle.pj_session.specs.Laws.{an_expression_gives_its_number, charges_are_only_taken, an_event_comes_last, events_stay_good, output_stands_beside_events, base_stays_as_it_is, a_name_is_what_the_events_say, no_module_binds_a_name_of_base, an_unqualified_name_of_base_is_bases, a_call_picks_the_only_method, a_module_is_loaded_as_the_events_say, a_line_prints_what_is_asked, a_definition_adds_its_method, a_constant_is_bound_behind_its_value, a_start_calls_init, an_image_is_loaded_once, a_wrong_reading_ends_the_run, a_refused_image_changes_nothing, an_image_is_loaded_and_started, a_build_keeps_its_events};
@@ -35,6 +37,7 @@ pub use end::End;
 pub use error::ErrorValue;
 pub use load::LoadFault;
 pub use state::Session;
+pub use using::UsingFault;
 
 /// What a plain expression gives, and how many charges it takes.
 pub fn expression_laws()

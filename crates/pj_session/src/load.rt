@@ -1,6 +1,6 @@
 //! Loading an image.
 
-ghost use Rattle.std.specs.Prelude.{◌≡◌, ◌≤◌, ◌∷◌, [], ◌++◌, Ok, Some, None, IfOk, IfErr, OnOk, OnErr, length, suc};
+ghost use Rattle.std.specs.Prelude.{◌≡◌, ◌≤◌, ◌∷◌, [], ◌++◌, Ok, Some, None, true, IfOk, IfErr, IsErrOf, OnOk, OnErr, length, suc};
 ghost use Rattle.pj_image.specs.File.{file_at};
 ghost use Rattle.pj_image.specs.Formed.{Formed, IsFileOf};
 ghost use Rattle.pj_content.specs.Misfit.{misfit as image_misfit};
@@ -12,6 +12,7 @@ ghost use Rattle.pj_session.specs.FromFiles.{held_of as held_of_file, why_refuse
 ghost use Rattle.pj_session.specs.Merged.{held_of, image_name};
 ghost use Rattle.pj_session.specs.Seen.{events_of};
 ghost use Rattle.pj_session.specs.Loading.{Added, Reads, Refuses, Tells};
+ghost use Rattle.pj_session.specs.declared.load.LoadFault.{LoadFault};
 
 use crate::index::{image_names, method_list};
 use crate::own::Kind;
@@ -87,7 +88,7 @@ impl Session {
     }
 
     /// Whether an image of this name is loaded. A package that is built counts as loaded.
-    fn counts_loaded(&self, name: &str) -> bool
+    pub(crate) fn counts_loaded(&self, name: &str) -> bool
         ensures { result ≡ counts_loaded self.now.here (events_of self.now) name.now }
     {
         self.package(name).is_some() || (self.builds() && self.here.as_str() == name)
@@ -171,6 +172,7 @@ impl Session {
         ensures here { self.new.here ≡ self.old.here }
         ensures printed { self.new.printed ≡ self.old.printed }
         ensures spent { self.new.spent ≡ self.old.spent }
+        ensures none_left { self.old.spent ≡ true → IsErrOf result LoadFault.NoMemory }
     {
         if self.spent {
             return Err(LoadFault::NoMemory);

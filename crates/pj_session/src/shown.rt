@@ -1,9 +1,9 @@
 //! What a statement prints.
 
-ghost use Rattle.std.specs.Prelude.{◌≡◌, [], true, false, None, codes, map};
+ghost use Rattle.std.specs.Prelude.{◌≡◌, ◌++◌, ◌||◌, [], true, false, None, codes, map};
 ghost use Rattle.std.specs.Option.{MatchOption, option_map_or};
 ghost use Rattle.pj_meaning.specs.Top.{top};
-ghost use Rattle.pj_meaning.specs.Tree.{Call, Run, Value, also, none};
+ghost use Rattle.pj_meaning.specs.Tree.{Call, Run, Text, Value, also, none};
 ghost use Rattle.pj_tree.specs.Reads.{exprs_of};
 ghost use Rattle.pj_plain.specs.Forms.{only, printed};
 ghost use Rattle.pj_plain.specs.Held.{held_expr, held_stmt, held_text};
@@ -11,10 +11,11 @@ ghost use Rattle.std.specs.Str.{bytes_eq};
 ghost use Rattle.pj_session.specs.Good.{Good};
 ghost use Rattle.pj_session.specs.OwnItems.{is_own_call};
 ghost use Rattle.pj_session.specs.Seen.{events_of, state_seen};
+ghost use Rattle.pj_session.specs.SessionItems.{is_far};
 ghost use Rattle.pj_session.specs.States.{run};
 ghost use Rattle.pj_session.specs.Tops.{Tops};
 
-use crate::called_here::{called_here, is_unwritten};
+use crate::called_here::is_unwritten;
 use crate::end::End;
 use crate::state::Session;
 use pj_plain::held::text;
@@ -60,18 +61,17 @@ pub fn shown(s: &Stmt) -> Option<&Expr>
 }
 
 impl Session {
-    /// Evaluates a statement that is `println` of a call, without a module, with integers.
+    /// Evaluates a statement that is `println` of a call, without a module, with integers, or of a name or such a call of
+    /// a module that is written.
     pub fn show(&mut self, alloc: Global, s: &Stmt, left: &mut u64) -> Result<(), End>
-        ensures tops { option_map_or is_own_call (printed (held_stmt s.now)) false ≡ true → Good self.old.here (events_of self.old) → Tops (top (Run (held_stmt s.now)) (run (state_seen self.old) left.old)) result (state_seen self.old) (state_seen self.new) left.new }
+        ensures tops { option_map_or (λ e. is_own_call e || is_far e) (printed (held_stmt s.now)) false ≡ true → Good self.old.here (events_of self.old) → Tops (top (Run (held_stmt s.now)) (run (state_seen self.old) left.old)) result (state_seen self.old) (state_seen self.new) left.new }
+        ensures printed { (text : Text) × (self.new.printed ≡ self.old.printed ++ text) }
         ensures events { events_of self.new ≡ events_of self.old }
         ensures here { self.new.here ≡ self.old.here }
         ensures spent { self.new.spent ≡ self.old.spent }
     {
-        let Some(e) = shown(s) else {
-            return Ok(());
-        };
-        match called_here(e) {
-            Some(call) => self.println_call_here(alloc, call.name, call.arguments, left),
+        match shown(s) {
+            Some(e) => self.println_expr(alloc, e, left),
             None => Ok(()),
         }
     }

@@ -3,6 +3,7 @@ use Rattle.pj_tree.specs.Reads.{exprs_of}
 use Rattle.pj_plain.specs.Held.{held_expr}
 use Rattle.pj_session.specs.Seen.{events_of}
 use Rattle.pj_session.proofs.Bound.{bound_good, call_bound, call_failed}
+use Rattle.pj_session.proofs.OwnMore.{some_bound}
 use Rattle.pj_session.proofs.state.Session.constant_call_here.Goals as goal
 
 pub returns-in-Ok-call_here-clause-tops : goal.returns-in-Ok-call_here-clause-tops
@@ -21,3 +22,6 @@ returns-clause-tops c is free good =
 pub returns-in-Ok-call_here-clause-good : goal.returns-in-Ok-call_here-clause-good
 returns-in-Ok-call_here-clause-good c =
     bound_good _ _ c.args.name.now _ _ _ c.bind.result c.bind.ensures.here c.bind.ensures.added c.requires.new
+
+pub returns-in-Ok-call_here-clause-added : goal.returns-in-Ok-call_here-clause-added
+returns-in-Ok-call_here-clause-added c = some_bound c.bind.result _ _ c.args.name.now _ c.bind.ensures.added

@@ -3,6 +3,7 @@ use Rattle.pj_plain.specs.Held.{held_expr}
 use Rattle.pj_session.specs.Seen.{events_of}
 use Rattle.pj_session.proofs.Bound.{bound_good}
 use Rattle.pj_session.proofs.OwnItems.{value_bound, value_failed}
+use Rattle.pj_session.proofs.OwnMore.{some_bound}
 use Rattle.pj_session.proofs.state.Session.constant_value.Goals as goal
 
 pub returns-in-Ok-clause-tops : goal.returns-in-Ok-clause-tops
@@ -21,3 +22,6 @@ returns-in-Err-clause-tops c plain free good =
     let s = c.args.self.now in
     value_failed s.here (events_of s) s.printed c.args.name.now (held_expr c.args.e.now) c.args.left.now plain free c.requires.new good
     _ c.in-Err.end c.value.new.left c.in-Err.ensures
+
+pub returns-in-Ok-clause-added : goal.returns-in-Ok-clause-added
+returns-in-Ok-clause-added c = some_bound c.bind.result _ _ c.args.name.now _ c.bind.ensures.added
