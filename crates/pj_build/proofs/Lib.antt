@@ -13,3 +13,6 @@ pub mod Naming
 pub mod TreeFacts
 pub mod TreesBuilt
 pub mod HeadFacts
+pub mod Evaluating
+pub mod OwnOnly
+pub mod Packing

@@ -7,3 +7,5 @@ pub mod Wiring
 pub mod Wired
 pub mod Built
 pub mod Rows
+pub mod Packs
+pub mod Evaluated

@@ -107,7 +107,6 @@ fn put_methods(image: Image, w: Wiring) -> Image
 pub fn image_of(alloc: Global, name: &str, names: &Names, things: &[Own]) -> Result<Image, NoMemory>
     requires each { length names.now ≡ length things.now }
     requires good { Good name.now (own_events names.now things.now) }
-    requires read { PackageRead name.now names.now things.now }
     // It is the package's, and has no dependencies.
     ensures called { IfOk result (λ i. i.head.name ≡ name.now) }
     ensures alone { IfOk result (λ i. i.head.dependencies ≡ []) }
@@ -117,17 +116,18 @@ pub fn image_of(alloc: Global, name: &str, names: &Names, things: &[Own]) -> Res
     ensures no_misfit { IfOk result (λ i. misfit i ≡ None) }
     // Each mention holds its number, and has the one entry with its place.
     ensures right { IfOk result (λ i. placed (methods_place i) i.methods i.entries ≡ true) }
-    // Its name is one of packages, and its head, its functions and its bindings have spellings.
-    ensures named { IfOk result (λ i. is_package_name i.head.name ≡ true) }
-    ensures head { IfOk result (λ i. HeadFits i.head) }
+    // Its functions and its bindings have spellings; and so has its head, whose name is one of packages, where all this was
+    // read from a text.
+    ensures named { IfOk result (λ i. PackageRead name.now names.now things.now → is_package_name i.head.name ≡ true) }
+    ensures head { IfOk result (λ i. PackageRead name.now names.now things.now → HeadFits i.head) }
     ensures functions { IfOk result (λ i. AllByRecursion FunDefFits i.functions) }
     ensures bindings { IfOk result (λ i. AllByRecursion BindingFits i.bindings) }
-    // The names that it declares may all be bound, and are different.
-    ensures names { IfOk result (λ i. is_some (names_of i) ≡ true) }
-    // Its trees are plain, and have spellings; and each method has one as its body.
-    ensures plain { IfOk result (λ i. list_all (is_plain i.strings) i.trees ≡ true) }
-    ensures trees { IfOk result (λ i. AllByRecursion TreeFits i.trees) }
-    ensures fine { IfOk result (λ i. list_all (method_fine i.trees) i.methods ≡ true) }
+    // Where it was, the names that it declares may all be bound, and are different.
+    ensures names { IfOk result (λ i. PackageRead name.now names.now things.now → is_some (names_of i) ≡ true) }
+    // Where it was, its trees are plain, and have spellings; and each method has one as its body.
+    ensures plain { IfOk result (λ i. PackageRead name.now names.now things.now → list_all (is_plain i.strings) i.trees ≡ true) }
+    ensures trees { IfOk result (λ i. PackageRead name.now names.now things.now → AllByRecursion TreeFits i.trees) }
+    ensures fine { IfOk result (λ i. PackageRead name.now names.now things.now → list_all (method_fine i.trees) i.methods ≡ true) }
 {
     let image = declared(alloc, name, names, things)?;
     let place = first_method(&image)?;

@@ -63,29 +63,29 @@ returns-clause-right c =
     (subst (λ (a : ℕ). placed a ms es ≡ true) (sym (methods_place_same i ms es)) (all_placed counts at c.in_ok-place.place c.in_ok-place.ensures))
 
 pub returns-clause-names : goal.returns-clause-names
-returns-clause-names c =
+returns-clause-names c read =
     subst (λ (j : Image). is_some (names_of j) ≡ true) (sym c.put_methods.ensures)
-    (built_names c.args.name.now c.args.names.now c.args.things.now c.in_ok-image.image c.requires.each c.requires.good c.requires.read.identifiers c.in_ok-image.ensures)
+    (built_names c.args.name.now c.args.names.now c.args.things.now c.in_ok-image.image c.requires.each c.requires.good read.identifiers c.in_ok-image.ensures)
 
 pub returns-clause-plain : goal.returns-clause-plain
-returns-clause-plain c =
-    let all = built_trees c.args.name.now c.args.names.now c.args.things.now c.in_ok-image.image c.requires.each c.requires.good c.requires.read.each c.in_ok-image.ensures in
+returns-clause-plain c read =
+    let all = built_trees c.args.name.now c.args.names.now c.args.things.now c.in_ok-image.image c.requires.each c.requires.good read.each c.in_ok-image.ensures in
     subst (λ (j : Image). list_all (is_plain j.strings) j.trees ≡ true) (sym c.put_methods.ensures) all.plain
 
 pub returns-clause-trees : goal.returns-clause-trees
-returns-clause-trees c =
-    let all = built_trees c.args.name.now c.args.names.now c.args.things.now c.in_ok-image.image c.requires.each c.requires.good c.requires.read.each c.in_ok-image.ensures in
+returns-clause-trees c read =
+    let all = built_trees c.args.name.now c.args.names.now c.args.things.now c.in_ok-image.image c.requires.each c.requires.good read.each c.in_ok-image.ensures in
     subst (λ (j : Image). AllByRecursion TreeFits j.trees) (sym c.put_methods.ensures) all.fits
 
 pub returns-clause-fine : goal.returns-clause-fine
-returns-clause-fine c =
+returns-clause-fine c read =
     let i = c.in_ok-image.image in
-    let all = built_trees c.args.name.now c.args.names.now c.args.things.now i c.requires.each c.requires.good c.requires.read.each c.in_ok-image.ensures in
+    let all = built_trees c.args.name.now c.args.names.now c.args.things.now i c.requires.each c.requires.good read.each c.in_ok-image.ensures in
     subst (λ (j : Image). list_all (method_fine j.trees) j.methods ≡ true) (sym c.put_methods.ensures)
     (subst (λ (ms : List Method). list_all (method_fine i.trees) ms ≡ true) (sym c.in_ok-w.ensures.methods) all.fine)
 
 pub returns-clause-named : goal.returns-clause-named
-returns-clause-named c = subst (λ (t : Text). is_package_name t ≡ true) (sym (ap (λ (j : Image). j.head.name) c.put_methods.ensures ∙ c.in_ok-image.ensures.called)) c.requires.read.called
+returns-clause-named c read = subst (λ (t : Text). is_package_name t ≡ true) (sym (ap (λ (j : Image). j.head.name) c.put_methods.ensures ∙ c.in_ok-image.ensures.called)) read.called
 
 pub returns-clause-functions : goal.returns-clause-functions
 returns-clause-functions c = subst (λ (j : Image). AllByRecursion FunDefFits j.functions) (sym c.put_methods.ensures) c.in_ok-image.ensures.functions.fit
@@ -94,6 +94,6 @@ pub returns-clause-bindings : goal.returns-clause-bindings
 returns-clause-bindings c = subst (λ (j : Image). AllByRecursion BindingFits j.bindings) (sym c.put_methods.ensures) c.in_ok-image.ensures.bindings.fit
 
 pub returns-clause-head : goal.returns-clause-head
-returns-clause-head c =
+returns-clause-head c read =
     subst (λ (j : Image). HeadFits j.head) (sym c.put_methods.ensures)
-    (head_fits c.in_ok-image.image.head c.args.name.now c.in_ok-image.ensures.called c.in_ok-image.ensures.alone (is_utf8-from_IsUtf8 c.args.name.now c.utf8.name) c.requires.read.called)
+    (head_fits c.in_ok-image.image.head c.args.name.now c.in_ok-image.ensures.called c.in_ok-image.ensures.alone (is_utf8-from_IsUtf8 c.args.name.now c.utf8.name) read.called)
