@@ -1,340 +1,391 @@
--- The whole command: that its ending is the only one, and that what was put is a front of what it puts.
-use Rattle.std.proofs.Common.{◌≡◌, ℕ, ◌+◌, ◌<◌, ◌≤◌, ◌^◌, ◌⊎◌, inl, inr, Bool, true, false, List, [], ◌∷◌, ◌++◌, Option, Some, None, Result, Ok, Err, length, min, take, map, refl, sym, ap, subst, ◌∙◌, arith, append_assoc}
+-- The whole command: what its inner call leaves and what is told at the end make up what the command promises.
+use Rattle.std.proofs.Common.{◌≡◌, ℕ, ◌+◌, ◌⊎◌, inl, inr, List, [], ◌++◌, Option, Some, None, Result, Ok, Err, length, min, take, sym, ap, subst, ◌∙◌, append_assoc}
 use Rattle.std.specs.Option.{IfSome}
-use Rattle.std.specs.Prelude.{codes}
-use Rattle.std.specs.Fmt.{decimal}
-use Rattle.std.proofs.lemmas.List.{append-nil, take-append-le}
-use Rattle.std.proofs.Math.Seq.{take-append-add, take-length}
-use Rattle.std.proofs.lemmas.Fmt.{decimal_injective}
-use Rattle.pj_meaning.specs.Tree.{Text, TopItem}
-use Rattle.pj_meaning.specs.Endings.{ending_line}
-use Rattle.pj_outside.specs.Stored.{Files}
+use Rattle.std.specs.Prelude.{IfOk}
+use Rattle.std.proofs.lemmas.List.{append-nil, append_cancel_left, take-append-le, take_min}
+use Rattle.std.proofs.Math.Nat.{min-le_right}
+use Rattle.std.proofs.Math.Seq.{take-append-add}
+use Rattle.pj_meaning.specs.Tree.{Text}
+use Rattle.pj_outside.specs.Stored.{Files, Keeps}
 use Rattle.pj_outside.specs.Faults.{Rose}
-use Rattle.std.proofs.lemmas.Bool.{false≢true}
-use Rattle.pj_lex.specs.declared.fault.SyntaxKind.{SyntaxKind}
-use Rattle.pj_tree.specs.declared.item.ScriptTree.{ScriptTree}
-use Rattle.pj_plain.specs.Held.{held_script}
-use Rattle.pj_plain.specs.Plain.{plain_items}
-use Rattle.pj_text.specs.Texts.{IsScript, IsScriptFault}
-use Rattle.pj_text.proofs.Scripts.{no-fault, one-script, one-script-fault}
-use Rattle.pj_top.specs.Positions.{position_of}
-use Rattle.pj_top.specs.Commands.{IsRun}
-use Rattle.pj_top.specs.Claims.{Adds, AddsFront, Ends, Runs, Begins, Reached, TellsFault, CutsFault, TellsUsage}
-use Rattle.pj_top.specs.Endings.{ScriptEnds, absent, long, faulty, unbuilt, runs, CommandEnds, no_command, run, text_limit, usage_line, syntax_line, ending_of, printed_of, status_of, depot_line}
-use Rattle.pj_top.specs.Stops.{RunsTo, Reaches, Finishes, Concludes, IfDepotFailedAdds, status_line, ending_status}
-use Rattle.pj_top.proofs.Loop.{take-min, min_le}
+use Rattle.pj_top.specs.Commands.{Command, IsPrecompile, IsRun}
+use Rattle.pj_top.specs.Claims.{Adds, AddsFront, Ends, Runs, Begins, Reached, TellsFault, CutsFault, TellsUsage, Touches, IsPrintedFront, Leaves, Precompiles}
+use Rattle.pj_top.specs.Endings.{ScriptEnds, PackageEnds, CommandEnds, no_command, run, precompile, usage_line, depot_line}
+use Rattle.pj_top.specs.Stops.{Leads, Reaches, AddsSome, Builds, Finishes, TellsDepot, Concludes, Answers, IsEnding, IsRead, IsOfPackage, DepotCause}
 use Rattle.pj_top.specs.declared.status.Status.{Status}
 use Rattle.pj_top.specs.declared.status.Status.TheVariants as ends
 use Rattle.pj_top.specs.declared.stop.Stop.{Stop}
+use Rattle.pj_top.specs.declared.stop.Stop.TheVariants as stop
 use Rattle.pj_top.specs.declared.stop.Ending.{Ending}
-use Rattle.pj_top.specs.declared.stop.Ending.TheVariants as ending
+use Rattle.pj_top.proofs.Told.{one_ending, one_precompile, not_two, script_ends, package_ends}
 
--- a file isn't both within the limit and beyond it
-too_long : (a b : Text) → a ≡ b → text_limit < length a → length b ≤ text_limit → ⊥
-too_long a b same past short = omega (arith, past, short, ap (λ (x : Text). length x) same)
+-- ---- texts
 
--- a tree isn't both of the form that runs and of another
-not_both : (a b : ScriptTree) → a ≡ b → plain_items [] (held_script a) ≡ false → plain_items [] (held_script b) ≡ true → ⊥
-not_both a b same other plain = false≢true (sym other ∙ ap (λ t. plain_items [] (held_script t)) same ∙ plain)
+some_injective : {A : Type 0} (x y : A) → Some x ≡ Some y → x ≡ y
+some_injective x y e = cc
 
-same_line : (name a b : Text) (o r : ℕ) (w x : SyntaxKind) → a ≡ b → o ≡ r → w ≡ x → syntax_line name (position_of a o) w ≡ syntax_line name (position_of b r) x
-same_line name a b o r w x bytes places kinds =
-    ap (λ y. syntax_line name (position_of y o) w) bytes ∙ ap (λ y. syntax_line name (position_of b y) w) places ∙ ap (λ y. syntax_line name (position_of b r) y) kinds
+-- a text that stands behind another is one
+one_text : (old a b : Text) (now : Option Text) → Adds old a now → Adds old b now → a ≡ b
+one_text old a b now x y = append_cancel_left old a b (some_injective _ _ (sym x ∙ y))
 
--- a script's run has one printed text
-pub one_printed : (name : Text) (file : Option Text) (steps : ℕ) (p l q m : Text) (s t : Status) → ScriptEnds name file steps p l s → ScriptEnds name file steps q m t → (p ≡ q) × (l ≡ m) × (s ≡ t)
-one_printed name file steps p l q m s t (absent e) (absent f) = (refl, refl, refl)
-one_printed name file steps p l q m s t (absent e) (long b f k) = cc
-one_printed name file steps p l q m s t (absent e) (faulty b o w f k n) = cc
-one_printed name file steps p l q m s t (absent e) (unbuilt b i f k n v) = cc
-one_printed name file steps p l q m s t (absent e) (runs b i f k n v) = cc
-one_printed name file steps p l q m s t (long a e h) (absent f) = cc
-one_printed name file steps p l q m s t (long a e h) (long b f k) = (refl, refl, refl)
-one_printed name file steps p l q m s t (long a e h) (faulty b o w f k n) = absurd (too_long a b (cc) h k)
-one_printed name file steps p l q m s t (long a e h) (unbuilt b i f k n v) = absurd (too_long a b (cc) h k)
-one_printed name file steps p l q m s t (long a e h) (runs b i f k n v) = absurd (too_long a b (cc) h k)
-one_printed name file steps p l q m s t (faulty a o w e h j) (absent f) = cc
-one_printed name file steps p l q m s t (faulty a o w e h j) (long b f k) = absurd (too_long b a (cc) k h)
-one_printed name file steps p l q m s t (faulty a o w e h j) (faulty b r x f k n) =
-    let same : b ≡ a = cc in
-    let one = one-script-fault j (subst (λ y. IsScriptFault y r x) same n) in
-    (refl, same_line name a b o r w x (sym same) one.0 one.1, refl)
-one_printed name file steps p l q m s t (faulty a o w e h j) (unbuilt b i f k n v) = let same : b ≡ a = cc in absurd (no-fault (subst (λ y. IsScript y i) same n) j)
-one_printed name file steps p l q m s t (faulty a o w e h j) (runs b i f k n v) = let same : b ≡ a = cc in absurd (no-fault (subst (λ y. IsScript y i) same n) j)
-one_printed name file steps p l q m s t (unbuilt a i e h j u) (absent f) = cc
-one_printed name file steps p l q m s t (unbuilt a i e h j u) (long b f k) = absurd (too_long b a (cc) k h)
-one_printed name file steps p l q m s t (unbuilt a i e h j u) (faulty b o w f k n) = let same : b ≡ a = cc in absurd (no-fault j (subst (λ y. IsScriptFault y o w) same n))
-one_printed name file steps p l q m s t (unbuilt a i e h j u) (unbuilt b o f k n v) = (refl, refl, refl)
-one_printed name file steps p l q m s t (unbuilt a i e h j u) (runs b o f k n v) = let same : b ≡ a = cc in absurd (not_both i o (one-script j (subst (λ y. IsScript y o) same n)) u v)
-one_printed name file steps p l q m s t (runs a i e h j u) (absent f) = cc
-one_printed name file steps p l q m s t (runs a i e h j u) (long b f k) = absurd (too_long b a (cc) k h)
-one_printed name file steps p l q m s t (runs a i e h j u) (faulty b o w f k n) = let same : b ≡ a = cc in absurd (no-fault j (subst (λ y. IsScriptFault y o w) same n))
-one_printed name file steps p l q m s t (runs a i e h j u) (unbuilt b o f k n v) = let same : b ≡ a = cc in absurd (not_both o i (sym (one-script j (subst (λ y. IsScript y o) same n))) v u)
-one_printed name file steps p l q m s t (runs a i e h j u) (runs b o f k n v) =
-    let same : b ≡ a = cc in
-    let one = one-script j (subst (λ y. IsScript y o) same n) in
-    (ap (λ y. printed_of (held_script y) steps) one, ap (λ y. ending_line (ending_of (held_script y) steps)) one, ap (λ y. status_of (ending_of (held_script y) steps)) one)
+-- a front of a text is a front of what is longer
+longer_front : (p l : Text) (n : ℕ) → take n p ≡ take (min n (length p)) (p ++ l)
+longer_front p l n = sym (take_min n p) ∙ sym (take-append-le (min n (length p)) p l (min-le_right n (length p)))
 
--- words are one run
+-- ---- the line at the end
 
-abbrev second_of : List Text → Text
-second_of [] = []
-second_of (a ∷ []) = []
-second_of (a ∷ b ∷ ws) = b
+pub depot_finished : (written now : Option Text) (line file : Text) (status : Status) → line ≡ depot_line file
+    → IfSome written (λ old. Finishes old line ends.DepotFailed status now) → IfSome written (λ old. TellsDepot old file status now)
+depot_finished None now line file status is told = tt
+depot_finished (Some old) now line file status is told = inl (subst (λ l. Finishes old l ends.DepotFailed status now) is told)
 
-abbrev third_of : List Text → Text
-third_of [] = []
-third_of (a ∷ []) = []
-third_of (a ∷ b ∷ []) = []
-third_of (a ∷ b ∷ c ∷ ws) = c
+pub depot_concluded : (written now : Option Text) (file told : Text) (came : Result Ending Stop) (status : Status) → came ≡ Err (stop.DepotFailed file) → told ≡ file
+    → IfSome written (λ old. TellsDepot old told status now) → IfSome written (λ old. Concludes old came status now)
+depot_concluded None now file told came status is same tells = tt
+depot_concluded (Some old) now file told came status is same tells =
+    subst (λ r. Concludes old r status now) (sym is) (subst (λ t. TellsDepot old t status now) same tells)
 
-one_run : (words : List Text) (m n : ℕ) (a b : Text) → IsRun words m a → IsRun words n b → (m ≡ n) × (a ≡ b)
-one_run words m n a b x y =
-    let both = sym x.spelled ∙ y.spelled in
-    (decimal_injective m n (omega (arith, x.few)) (omega (arith, y.few)) (ap second_of both), ap third_of both)
+-- ---- words that are no command
 
--- a run's ending is that of its script
-script_ends : (told : Files) (words : List Text) (steps : ℕ) (script : Text) (p l : Text) (s : Status) → IsRun words steps script → CommandEnds told words p l s → ScriptEnds script (told script) steps p l s
-script_ends told words steps script p l s r (no_command none) = absurd (none steps script r)
-script_ends told words steps script p l s r (run steps' script' p' l' s' r' e) =
-    let same = one_run words steps steps' script script' r r' in
-    subst (λ n. ScriptEnds script (told script) n p' l' s') (sym same.0) (subst (λ x. ScriptEnds x (told x) steps' p' l' s') (sym same.1) e)
+module _ (words : List Text) (files : Option Files) (before now : Option Text) (status : Status) (none : Command words → ⊥)
+    (told : IfSome before (λ old. Finishes old usage_line ends.Usage status now)) (which : (status ≡ ends.Usage) ⊎ (status ≡ ends.SinkFailed)) where
+  said : (old : Text) → before ≡ Some old → Finishes old usage_line ends.Usage status now
+  said old w = let P : Option Text → Type 0 = λ b. IfSome b (λ o. Finishes o usage_line ends.Usage status now) in subst P w told
 
--- a command has one ending
-pub one_ending : (files : Files) (words : List Text) (p l q m : Text) (s t : Status) → CommandEnds files words p l s → CommandEnds files words q m t → (p ≡ q) × (l ≡ m) × (s ≡ t)
-one_ending files words p l q m s t (no_command n) (no_command o) = (refl, refl, refl)
-one_ending files words p l q m s t (no_command n) (run steps script q' m' t' r e) = absurd (n steps script r)
-one_ending files words p l q m s t (run steps script p' l' s' r e) c =
-    one_printed script (files script) steps p' l' q m s' t e (script_ends files words steps script q m t r c)
+  no_command_ends : (fs : Files) → status ≡ ends.Usage → CommandEnds fs words [] usage_line status
+  no_command_ends fs e = subst (λ s. CommandEnds fs words [] usage_line s) (sym e) (no_command none)
 
--- words that are no command
+  only_no_command : (fs : Files) (p l : Text) (s : Status) → CommandEnds fs words p l s → (p ≡ []) × (l ≡ usage_line)
+  only_no_command fs p l s c = let one = one_ending fs words p l [] usage_line s ends.Usage c (no_command none) in (one.0, one.1)
 
-pub usage_reached : (words : List Text) (files : Option Files) (status : Status) → ((steps : ℕ) (script : Text) → IsRun words steps script → ⊥)
-    → (status ≡ ends.Usage) ⊎ (status ≡ ends.SinkFailed) → Reached words files status
-usage_reached words files status none which = λ fs f nd ns nm. by_status fs which ns
-  where
-    by_status : (fs : Files) → (status ≡ ends.Usage) ⊎ (status ≡ ends.SinkFailed) → (status ≡ ends.SinkFailed → ⊥) → (printed line : Text) × CommandEnds fs words printed line status
-    by_status fs (inl e) ns = ([], usage_line, subst (λ s. CommandEnds fs words [] usage_line s) (sym e) (no_command none))
-    by_status fs (inr e) ns = absurd (ns e)
+  pub usage_reached : Reached words files status
+  usage_reached = λ fs f nd ns nm. by_status fs which ns
+    where
+      by_status : (fs : Files) → (status ≡ ends.Usage) ⊎ (status ≡ ends.SinkFailed) → (status ≡ ends.SinkFailed → ⊥) → (printed line : Text) × CommandEnds fs words printed line status
+      by_status fs (inl e) ns = ([], usage_line, no_command_ends fs e)
+      by_status fs (inr e) ns = absurd (ns e)
 
-pub usage_runs : (words : List Text) (files : Option Files) (before now : Option Text) (status : Status) → ((steps : ℕ) (script : Text) → IsRun words steps script → ⊥)
-    → IfSome before (λ old. Finishes old usage_line ends.Usage status now) → Runs words files before now status
-usage_runs words files before now status none told = λ fs old f w nd ns nm.
-    let P : Option Text → Type 0 = λ b. IfSome b (λ o. Finishes o usage_line ends.Usage status now) in
-    ended fs old ns (subst P w told)
-  where
-    ended : (fs : Files) (old : Text) → (status ≡ ends.SinkFailed → ⊥) → Finishes old usage_line ends.Usage status now → Ends words fs old now status
-    ended fs old ns (inl (e, adds)) = record { printed = []; line = usage_line; added = adds; command = subst (λ s. CommandEnds fs words [] usage_line s) (sym e) (no_command none) }
-    ended fs old ns (inr (e, front)) = absurd (ns e)
+  pub usage_runs : Runs words files before now status
+  usage_runs = λ fs old f w nd ns nm. ended fs old ns (said old w)
+    where
+      ended : (fs : Files) (old : Text) → (status ≡ ends.SinkFailed → ⊥) → Finishes old usage_line ends.Usage status now → Ends words fs old now status
+      ended fs old ns (inl (e, adds)) = record { printed = []; line = usage_line; added = adds; command = no_command_ends fs e }
+      ended fs old ns (inr (e, front)) = absurd (ns e)
 
-pub usage_begins : (words : List Text) (files : Option Files) (before now : Option Text) (d0 d1 : ℕ) (status : Status) → ((steps : ℕ) (script : Text) → IsRun words steps script → ⊥)
-    → IfSome before (λ old. Finishes old usage_line ends.Usage status now) → (status ≡ ends.Usage) ⊎ (status ≡ ends.SinkFailed) → Begins words files before now d0 d1 status
-usage_begins words files before now d0 d1 status none told which = record {
-  memory = λ fs old p l s f w e c. never_memory which e;
-  sink = λ fs old p l s f w e c. let P : Option Text → Type 0 = λ b. IfSome b (λ o. Finishes o usage_line ends.Usage status now) in inl (front old p l s fs e (subst P w told) c);
-  depot = λ old w e. never_depot which e;
-}
-  where
-    never_memory : {A : Type 0} → (status ≡ ends.Usage) ⊎ (status ≡ ends.SinkFailed) → status ≡ ends.NoMemory → A
-    never_memory (inl u) e = cc
-    never_memory (inr u) e = cc
+  pub usage_begins : (d0 d1 : ℕ) → Begins words files before now d0 d1 status
+  usage_begins d0 d1 = record {
+    memory = λ fs old p l s f w e c. never_memory which e;
+    sink = λ fs old p l s f w e c. inl (front old p l s fs e (said old w) c);
+    depot = λ old w e. never_depot which e;
+  }
+    where
+      never_memory : {A : Type 0} → (status ≡ ends.Usage) ⊎ (status ≡ ends.SinkFailed) → status ≡ ends.NoMemory → A
+      never_memory (inl u) e = cc
+      never_memory (inr u) e = cc
 
-    never_depot : {A : Type 0} → (status ≡ ends.Usage) ⊎ (status ≡ ends.SinkFailed) → status ≡ ends.DepotFailed → A
-    never_depot (inl u) e = cc
-    never_depot (inr u) e = cc
+      never_depot : {A : Type 0} → (status ≡ ends.Usage) ⊎ (status ≡ ends.SinkFailed) → status ≡ ends.DepotFailed → A
+      never_depot (inl u) e = cc
+      never_depot (inr u) e = cc
 
-    front : (old p l : Text) (s : Status) (fs : Files) → status ≡ ends.SinkFailed → Finishes old usage_line ends.Usage status now → CommandEnds fs words p l s → AddsFront old (p ++ l) now
-    front old p l s fs e (inl (u, adds)) c = cc
-    front old p l s fs e (inr (u, cut)) (no_command n) = cut
-    front old p l s fs e (inr (u, cut)) (run steps script p' l' s' r ends') = absurd (none steps script r)
+      front : (old p l : Text) (s : Status) (fs : Files) → status ≡ ends.SinkFailed → Finishes old usage_line ends.Usage status now → CommandEnds fs words p l s → AddsFront old (p ++ l) now
+      front old p l s fs e (inl (u, adds)) c = cc
+      front old p l s fs e (inr (u, cut)) c =
+          let is = only_no_command fs p l s c in
+          (cut.0, cut.1 ∙ ap (λ t. Some (old ++ take cut.0 t)) (ap (λ t. t ++ usage_line) (sym is.0) ∙ ap (λ t. p ++ t) (sym is.1)))
 
-pub usage_told : (words : List Text) (before now : Option Text) (status : Status) → ((steps : ℕ) (script : Text) → IsRun words steps script → ⊥)
-    → IfSome before (λ old. Finishes old usage_line ends.Usage status now) → (status ≡ ends.Usage) ⊎ (status ≡ ends.SinkFailed) → TellsUsage words before now status
-usage_told words None now status none told which = record { exactly = λ e. none; always = λ n. split which }
-  where
-    split : (status ≡ ends.Usage) ⊎ (status ≡ ends.SinkFailed) → ((status ≡ ends.Usage) × Unit {0}) ⊎ ((status ≡ ends.SinkFailed) × Unit {0})
-    split (inl e) = inl (e, tt)
-    split (inr e) = inr (e, tt)
-usage_told words (Some old) now status none told which = record { exactly = λ e. none; always = λ n. told }
+  told_so : (w : Option Text) → IfSome w (λ old. Finishes old usage_line ends.Usage status now)
+      → ((status ≡ ends.Usage) × IfSome w (λ old. Adds old usage_line now)) ⊎ ((status ≡ ends.SinkFailed) × IfSome w (λ old. AddsFront old usage_line now))
+  told_so None t = split which
+    where
+      split : (status ≡ ends.Usage) ⊎ (status ≡ ends.SinkFailed) → ((status ≡ ends.Usage) × Unit {0}) ⊎ ((status ≡ ends.SinkFailed) × Unit {0})
+      split (inl e) = inl (e, tt)
+      split (inr e) = inr (e, tt)
+  told_so (Some old) t = t
 
--- the run of a script
+  pub usage_told : TellsUsage words before now status
+  usage_told = record { exactly = λ e. none; always = λ n. told_so before told }
 
-module _ (words : List Text) (files : Option Files) (before mid now : Option Text) (d0 d1 steps : ℕ) (script : Text) (is_run : IsRun words steps script) where
-  -- no ending's status is one of these
-  not_memory : {A : Type 0} (e : Ending) → ending_status e ≡ ends.NoMemory → A
-  not_memory ending.AtEnd h = cc
-  not_memory ending.Steps h = cc
-  not_memory ending.Missing h = cc
-  not_memory ending.TooLong h = cc
-  not_memory (ending.Faulty f) h = cc
-  not_memory ending.Unbuilt h = cc
-  not_memory ending.DepotFailed h = cc
+-- ---- what an inner call came to
 
-  not_sink : {A : Type 0} (e : Ending) → ending_status e ≡ ends.SinkFailed → A
-  not_sink ending.AtEnd h = cc
-  not_sink ending.Steps h = cc
-  not_sink ending.Missing h = cc
-  not_sink ending.TooLong h = cc
-  not_sink (ending.Faulty f) h = cc
-  not_sink ending.Unbuilt h = cc
-  not_sink ending.DepotFailed h = cc
+-- no ending has one of these statuses
+not_usage : {A : Type 0} (s : Status) → IsEnding s → s ≡ ends.Usage → A
+not_usage s is e = absurd (subst IsEnding e is)
 
-  -- what a run that wasn't stopped leaves: nothing after a depot's fault, or its printed text
-  pub data Left (file : Option Text) (old : Text) (e : Ending) : Type 0 where
-    failed : e ≡ ending.DepotFailed → Adds old [] mid → Left file old e
-    printed : (p : Text) → Adds old p mid → ScriptEnds script file steps p (status_line script e) (ending_status e) → Left file old e
+not_depot : {A : Type 0} (s : Status) → IsEnding s → s ≡ ends.DepotFailed → A
+not_depot s is e = absurd (subst IsEnding e is)
 
-  left_by : (file : Option Text) (old : Text) (e : Ending) → RunsTo script file steps old (Ok e) mid → Left file old e
-  left_by file old ending.AtEnd r = printed r.0 r.1 r.2
-  left_by file old ending.Steps r = printed r.0 r.1 r.2
-  left_by file old ending.Missing r = printed r.0 r.1 r.2
-  left_by file old ending.TooLong r = printed r.0 r.1 r.2
-  left_by file old (ending.Faulty f) r = printed r.0 r.1 r.2
-  left_by file old ending.Unbuilt r = printed r.0 r.1 r.2
-  left_by file old ending.DepotFailed r = failed refl r
+not_sink : {A : Type 0} (s : Status) → IsEnding s → s ≡ ends.SinkFailed → A
+not_sink s is e = absurd (subst IsEnding e is)
 
-  concluded : (old text : Text) (e : Ending) (status : Status) → Adds old text mid → IfSome mid (λ o. Concludes o script e status now) → Concludes (old ++ text) script e status now
-  concluded old text e status adds told =
-      let P : Option Text → Type 0 = λ b. IfSome b (λ o. Concludes o script e status now) in
-      subst P adds told
+not_memory : {A : Type 0} (s : Status) → IsEnding s → s ≡ ends.NoMemory → A
+not_memory s is e = absurd (subst IsEnding e is)
 
-  all_ends : (fs : Files) (old : Text) (e : Ending) (status : Status) → Left (fs script) old e → IfSome mid (λ o. Concludes o script e status now)
+-- what a call came to that wasn't stopped is an ending's status
+abbrev pub EndsWell : Result Ending Stop → Type 0
+EndsWell r = IfOk r (λ e. IsEnding e.status)
+
+-- what is told at the end stands behind what the call put
+behind : (old text : Text) (mid now : Option Text) (r : Result Ending Stop) (status : Status) → Adds old text mid → IfSome mid (λ o. Concludes o r status now) → Concludes (old ++ text) r status now
+behind old text mid now r status adds concluded = let P : Option Text → Type 0 = λ b. IfSome b (λ x. Concludes x r status now) in subst P adds concluded
+
+-- Words that are a command, which an inner call does over each depot's files.
+module _ (words : List Text) (E : Files → Text → Text → Status → Type 0)
+    (to : (fs : Files) (p l : Text) (s : Status) → E fs p l s → CommandEnds fs words p l s)
+    (from : (fs : Files) (p l : Text) (s : Status) → CommandEnds fs words p l s → E fs p l s) where
+  abbrev Leading : Option Files → Option Text → Result Ending Stop → Option Text → Type 0
+  Leading files before r mid = IfSome files (λ fs. IfSome before (λ old. Leads (E fs) old r mid))
+
+  left_by : (files : Option Files) (before mid : Option Text) (r : Result Ending Stop) (fs : Files) (old : Text) → files ≡ Some fs → before ≡ Some old
+      → Leading files before r mid → Leads (E fs) old r mid
+  left_by files before mid r fs old f w told =
+      let P : Option Files → Type 0 = λ o. IfSome o (λ g. IfSome before (λ x. Leads (E g) x r mid)) in
+      let Q : Option Text → Type 0 = λ b. IfSome b (λ x. Leads (E fs) x r mid) in
+      subst Q w (subst P f told)
+
+  -- ---- the status
+
+  reached_by : (fs : Files) (r : Result Ending Stop) (status : Status) → Reaches (E fs) r → Answers r status
+      → (status ≡ ends.DepotFailed → ⊥) → (status ≡ ends.SinkFailed → ⊥) → (status ≡ ends.NoMemory → ⊥) → (printed line : Text) × CommandEnds fs words printed line status
+  reached_by fs (Ok e) status (printed, is) (inl a) nd ns nm = (printed, e.line, subst (λ s. CommandEnds fs words printed e.line s) (sym a) (to fs printed e.line e.status is))
+  reached_by fs (Ok e) status (printed, is) (inr a) nd ns nm = absurd (ns a)
+  reached_by fs (Err stop.SinkFailed) status is a nd ns nm = absurd (ns a)
+  reached_by fs (Err (stop.DepotFailed file)) status is (inl a) nd ns nm = absurd (nd a)
+  reached_by fs (Err (stop.DepotFailed file)) status is (inr (inl a)) nd ns nm = absurd (ns a)
+  reached_by fs (Err (stop.DepotFailed file)) status is (inr (inr a)) nd ns nm = absurd (nm a)
+  reached_by fs (Err stop.NoMemory) status is a nd ns nm = absurd (nm a)
+
+  pub command_reached : (files : Option Files) (r : Result Ending Stop) (status : Status) → IfSome files (λ fs. Reaches (E fs) r) → Answers r status → Reached words files status
+  command_reached files r status reaches answers = λ fs f nd ns nm.
+      let P : Option Files → Type 0 = λ o. IfSome o (λ g. Reaches (E g) r) in
+      reached_by fs r status (subst P f reaches) answers nd ns nm
+
+  -- ---- where nothing failed
+
+  ends_by : (fs : Files) (old : Text) (mid now : Option Text) (r : Result Ending Stop) (status : Status) → Leads (E fs) old r mid → IfSome mid (λ o. Concludes o r status now)
       → (status ≡ ends.DepotFailed → ⊥) → (status ≡ ends.SinkFailed → ⊥) → (status ≡ ends.NoMemory → ⊥) → Ends words fs old now status
-  all_ends fs old e status (failed is adds) told nd ns nm = by_case (concluded old [] e status adds told)
+  ends_by fs old mid now (Ok e) status (printed, adds, is) concluded nd ns nm = by_case (behind old printed mid now (Ok e) status adds concluded)
     where
-      by_case : Concludes (old ++ []) script e status now → Ends words fs old now status
-      by_case (inl (inl (s, a))) = absurd (nd (s ∙ ap ending_status is))
-      by_case (inl (inr (s, a))) = absurd (ns s)
-      by_case (inr (s, a)) = absurd (nm s)
-  all_ends fs old e status (printed p adds ends') told nd ns nm = by_case (concluded old p e status adds told)
-    where
-      by_case : Concludes (old ++ p) script e status now → Ends words fs old now status
-      by_case (inl (inl (s, a))) = record {
-        printed = p;
-        line = status_line script e;
-        added = a ∙ ap Some (append_assoc old p (status_line script e));
-        command = subst (λ x. CommandEnds fs words p (status_line script e) x) (sym s) (run steps script p (status_line script e) (ending_status e) is_run ends');
+      by_case : Finishes (old ++ printed) e.line e.status status now → Ends words fs old now status
+      by_case (inl (a, put)) = record {
+        printed = printed;
+        line = e.line;
+        added = put ∙ ap Some (append_assoc old printed e.line);
+        command = subst (λ s. CommandEnds fs words printed e.line s) (sym a) (to fs printed e.line e.status is);
       }
-      by_case (inl (inr (s, a))) = absurd (ns s)
-      by_case (inr (s, a)) = absurd (nm s)
-
-  told_left : (e : Ending) (fs : Files) (old : Text) → files ≡ Some fs → before ≡ Some old → IfSome files (λ f. IfSome before (λ o. RunsTo script (f script) steps o (Ok e) mid)) → Left (fs script) old e
-  told_left e fs old f w told =
-      let P : Option Files → Type 0 = λ x. IfSome x (λ g. IfSome before (λ o. RunsTo script (g script) steps o (Ok e) mid)) in
-      let Q : Option Text → Type 0 = λ b. IfSome b (λ o. RunsTo script (fs script) steps o (Ok e) mid) in
-      left_by (fs script) old e (subst Q w (subst P f told))
-
-  pub ok_runs : (e : Ending) (status : Status) → IfSome files (λ f. IfSome before (λ o. RunsTo script (f script) steps o (Ok e) mid))
-      → IfSome mid (λ o. Concludes o script e status now) → Runs words files before now status
-  ok_runs e status told concl = λ fs old f w nd ns nm. all_ends fs old e status (told_left e fs old f w told) concl nd ns nm
-
-  reached_by : (file : Option Text) (e : Ending) → Reaches script file steps (Ok e) → (e ≡ ending.DepotFailed → ⊥) → (printed : Text) × ScriptEnds script file steps printed (status_line script e) (ending_status e)
-  reached_by file ending.AtEnd r n = r
-  reached_by file ending.Steps r n = r
-  reached_by file ending.Missing r n = r
-  reached_by file ending.TooLong r n = r
-  reached_by file (ending.Faulty f) r n = r
-  reached_by file ending.Unbuilt r n = r
-  reached_by file ending.DepotFailed r n = absurd (n refl)
-
-  pub ok_reached : (e : Ending) (status : Status) → IfSome files (λ f. Reaches script (f script) steps (Ok e))
-      → (status ≡ ending_status e) ⊎ ((status ≡ ends.SinkFailed) ⊎ (status ≡ ends.NoMemory)) → Reached words files status
-  ok_reached e status told (inl s) = λ fs f nd ns nm.
-      let P : Option Files → Type 0 = λ x. IfSome x (λ g. Reaches script (g script) steps (Ok e)) in
-      let r = reached_by (fs script) e (subst P f told) (λ is. nd (s ∙ ap ending_status is)) in
-      (r.0, status_line script e, subst (λ x. CommandEnds fs words r.0 (status_line script e) x) (sym s) (run steps script r.0 (status_line script e) (ending_status e) is_run r.1))
-  ok_reached e status told (inr (inl s)) = λ fs f nd ns nm. absurd (ns s)
-  ok_reached e status told (inr (inr s)) = λ fs f nd ns nm. absurd (nm s)
-
-  memory_front : (fs : Files) (old p l : Text) (s : Status) (e : Ending) (status : Status) → Left (fs script) old e → IfSome mid (λ o. Concludes o script e status now)
-      → status ≡ ends.NoMemory → CommandEnds fs words p l s → AddsFront old p now
-  memory_front fs old p l s e status (failed is adds) told m c = by_case (concluded old [] e status adds told)
+      by_case (inr (a, put)) = absurd (ns a)
+  ends_by fs old mid now (Err stop.SinkFailed) status (text, adds, front) concluded nd ns nm = absurd (ns (behind old text mid now (Err stop.SinkFailed) status adds concluded).0)
+  ends_by fs old mid now (Err (stop.DepotFailed file)) status (text, adds, front) concluded nd ns nm = by_case (behind old text mid now (Err (stop.DepotFailed file)) status adds concluded)
     where
-      by_case : Concludes (old ++ []) script e status now → AddsFront old p now
-      by_case (inl (inl (t, a))) = not_memory e (sym t ∙ m)
-      by_case (inl (inr (t, a))) = cc
-      by_case (inr (t, a)) = (0, a ∙ ap Some (append-nil (old ++ [])))
-  memory_front fs old p l s e status (printed q adds ends') told m c =
-      by_case (one_printed script (fs script) steps q (status_line script e) p l (ending_status e) s ends' (script_ends fs words steps script p l s is_run c)).0 (concluded old q e status adds told)
-    where
-      by_case : q ≡ p → Concludes (old ++ q) script e status now → AddsFront old p now
-      by_case same (inl (inl (t, a))) = not_memory e (sym t ∙ m)
-      by_case same (inl (inr (t, a))) = cc
-      by_case same (inr (t, a)) = (length p, a ∙ ap Some (append-nil (old ++ q) ∙ ap (λ x. old ++ x) (same ∙ sym (take-length p))))
+      by_case : TellsDepot (old ++ text) file status now → Ends words fs old now status
+      by_case (inl (inl (a, put))) = absurd (nd a)
+      by_case (inl (inr (a, put))) = absurd (ns a)
+      by_case (inr (a, put)) = absurd (nm a)
+  ends_by fs old mid now (Err stop.NoMemory) status (text, adds, front) concluded nd ns nm = absurd (nm (behind old text mid now (Err stop.NoMemory) status adds concluded).0)
 
-  sink_front : (fs : Files) (old p l : Text) (s : Status) (e : Ending) (status : Status) → Left (fs script) old e → IfSome mid (λ o. Concludes o script e status now)
-      → (e ≡ ending.DepotFailed → Rose d0 d1) → status ≡ ends.SinkFailed → CommandEnds fs words p l s → AddsFront old (p ++ l) now ⊎ (Rose d0 d1 × CutsFault words old now)
-  sink_front fs old p l s e status (failed is adds) told rose m c = by_case (concluded old [] e status adds told)
+  pub command_runs : (files : Option Files) (before mid now : Option Text) (r : Result Ending Stop) (status : Status) → Leading files before r mid
+      → IfSome mid (λ o. Concludes o r status now) → Runs words files before now status
+  command_runs files before mid now r status told concluded = λ fs old f w nd ns nm.
+      ends_by fs old mid now r status (left_by files before mid r fs old f w told) concluded nd ns nm
+
+  -- ---- where something failed
+
+  -- after want of memory
+  memory_front : (fs : Files) (old p l : Text) (s : Status) (mid now : Option Text) (r : Result Ending Stop) (status : Status) → EndsWell r → Leads (E fs) old r mid
+      → IfSome mid (λ o. Concludes o r status now) → status ≡ ends.NoMemory → CommandEnds fs words p l s → AddsFront old p now
+  memory_front fs old p l s mid now (Ok e) status well (printed, adds, is) concluded m c = by_case (behind old printed mid now (Ok e) status adds concluded)
     where
-      by_case : Concludes (old ++ []) script e status now → AddsFront old (p ++ l) now ⊎ (Rose d0 d1 × CutsFault words old now)
-      by_case (inl (inl (t, a))) = not_sink e (sym t ∙ m)
-      by_case (inl (inr (t, a))) = inr (
-        rose is,
+      by_case : Finishes (old ++ printed) e.line e.status status now → AddsFront old p now
+      by_case (inl (a, put)) = not_memory e.status well (sym a ∙ m)
+      by_case (inr (a, put)) = cc
+  memory_front fs old p l s mid now (Err stop.SinkFailed) status well (text, adds, front) concluded m c = by_case (behind old text mid now (Err stop.SinkFailed) status adds concluded)
+    where
+      by_case : (status ≡ ends.SinkFailed) × Adds (old ++ text) [] now → AddsFront old p now
+      by_case (a, put) = cc
+  memory_front fs old p l s mid now (Err (stop.DepotFailed file)) status well (text, adds, front) concluded m c =
+      by_case (front p l s (from fs p l s c)) (behind old text mid now (Err (stop.DepotFailed file)) status adds concluded)
+    where
+      by_case : (n : ℕ) × (text ≡ take n p) → TellsDepot (old ++ text) file status now → AddsFront old p now
+      by_case n (inl (inl (a, put))) = cc
+      by_case n (inl (inr (a, put))) = cc
+      by_case n (inr (a, put)) = (n.0, put ∙ ap Some (append-nil (old ++ text) ∙ ap (λ t. old ++ t) n.1))
+  memory_front fs old p l s mid now (Err stop.NoMemory) status well (text, adds, front) concluded m c =
+      by_case (front p l s (from fs p l s c)) (behind old text mid now (Err stop.NoMemory) status adds concluded)
+    where
+      by_case : (n : ℕ) × (text ≡ take n p) → (status ≡ ends.NoMemory) × Adds (old ++ text) [] now → AddsFront old p now
+      by_case n (a, put) = (n.0, put ∙ ap Some (append-nil (old ++ text) ∙ ap (λ t. old ++ t) n.1))
+
+  -- the front that was put is one whatever the files are that are told
+  printed_front : (files : Option Files) (before mid : Option Text) (old text : Text) (why : Stop) → before ≡ Some old → Leading files before (Err why) mid
+      → Adds old text mid → IsPrintedFront words files text
+  printed_front files before mid old text why w told adds = λ fs printed line end f c.
+      let lead = left_by files before mid (Err why) fs old f w told in
+      let n = lead.2 printed line end (from fs printed line end c) in
+      (n.0, one_text old text lead.0 mid adds lead.1 ∙ n.1)
+
+  -- after a fault of the sink
+  sink_front : (Is : Text → Type 0) → ((file : Text) → Is file → Touches words file) → (files : Option Files) (before : Option Text) (fs : Files) (old p l : Text) (s : Status)
+      (mid now : Option Text) (r : Result Ending Stop) (status : Status) (d0 d1 : ℕ) → files ≡ Some fs → before ≡ Some old → EndsWell r → Leading files before r mid
+      → IfSome mid (λ o. Concludes o r status now) → DepotCause Is d0 d1 r → status ≡ ends.SinkFailed → CommandEnds fs words p l s
+      → AddsFront old (p ++ l) now ⊎ (Rose d0 d1 × CutsFault words files old now)
+  sink_front Is touches files before fs old p l s mid now (Ok e) status d0 d1 f w well told concluded cause m c =
+      let lead = left_by files before mid (Ok e) fs old f w told in
+      by_case lead.0 (one_ending fs words lead.0 e.line p l e.status s (to fs lead.0 e.line e.status lead.2) c) (behind old lead.0 mid now (Ok e) status lead.1 concluded)
+    where
+      by_case : (q : Text) → (q ≡ p) × (e.line ≡ l) × (e.status ≡ s) → Finishes (old ++ q) e.line e.status status now → AddsFront old (p ++ l) now ⊎ (Rose d0 d1 × CutsFault words files old now)
+      by_case q one (inl (a, put)) = not_sink e.status well (sym a ∙ m)
+      by_case q one (inr (a, put)) = inl (
+        length q + put.0,
+        put.1
+            ∙ ap Some
+            (append_assoc old q (take put.0 e.line)
+            ∙ ap (λ x. old ++ x)
+            (sym (take-append-add q e.line put.0)
+            ∙ ap (λ x. take (length q + put.0) (x ++ e.line)) one.0
+            ∙ ap (λ x. take (length q + put.0) (p ++ x)) one.1)),
+      )
+  sink_front Is touches files before fs old p l s mid now (Err stop.SinkFailed) status d0 d1 f w well told concluded cause m c =
+      let lead = left_by files before mid (Err stop.SinkFailed) fs old f w told in
+      by_case lead.0 (lead.2 p l s (from fs p l s c)) (behind old lead.0 mid now (Err stop.SinkFailed) status lead.1 concluded)
+    where
+      by_case : (text : Text) → (n : ℕ) × (text ≡ take n p) → (status ≡ ends.SinkFailed) × Adds (old ++ text) [] now → AddsFront old (p ++ l) now ⊎ (Rose d0 d1 × CutsFault words files old now)
+      by_case text n (a, put) = inl (min n.0 (length p), put ∙ ap Some (append-nil (old ++ text) ∙ ap (λ t. old ++ t) (n.1 ∙ longer_front p l n.0)))
+  sink_front Is touches files before fs old p l s mid now (Err (stop.DepotFailed file)) status d0 d1 f w well told concluded cause m c =
+      let lead = left_by files before mid (Err (stop.DepotFailed file)) fs old f w told in
+      by_case lead.0 (printed_front files before mid old lead.0 (stop.DepotFailed file) w told lead.1) (behind old lead.0 mid now (Err (stop.DepotFailed file)) status lead.1 concluded)
+    where
+      by_case : (text : Text) → IsPrintedFront words files text → TellsDepot (old ++ text) file status now → AddsFront old (p ++ l) now ⊎ (Rose d0 d1 × CutsFault words files old now)
+      by_case text front (inl (inl (a, put))) = cc
+      by_case text front (inl (inr (a, put))) = inr (
+        cause.failed.0,
         record {
-          steps = steps;
-          script = script;
-          words_run = is_run;
-          added = (a.0, a.1 ∙ ap Some (ap (λ x. x ++ take a.0 (status_line script e)) (append-nil old) ∙ ap (λ x. old ++ take a.0 (status_line script x)) is));
+          file = file;
+          text = text;
+          touched = touches file cause.failed.1;
+          front = front;
+          added = (
+            length text + put.0,
+            put.1 ∙ ap Some (append_assoc old text (take put.0 (depot_line file)) ∙ ap (λ x. old ++ x) (sym (take-append-add text (depot_line file) put.0))),
+          );
         },
       )
-      by_case (inr (t, a)) = cc
-  sink_front fs old p l s e status (printed q adds ends') told rose m c =
-      by_case (one_printed script (fs script) steps q (status_line script e) p l (ending_status e) s ends' (script_ends fs words steps script p l s is_run c)) (concluded old q e status adds told)
+      by_case text front (inr (a, put)) = cc
+  sink_front Is touches files before fs old p l s mid now (Err stop.NoMemory) status d0 d1 f w well told concluded cause m c =
+      let lead = left_by files before mid (Err stop.NoMemory) fs old f w told in
+      by_case lead.0 (behind old lead.0 mid now (Err stop.NoMemory) status lead.1 concluded)
     where
-      by_case : (q ≡ p) × (status_line script e ≡ l) × (ending_status e ≡ s) → Concludes (old ++ q) script e status now → AddsFront old (p ++ l) now ⊎ (Rose d0 d1 × CutsFault words old now)
-      by_case same (inl (inl (t, a))) = not_sink e (sym t ∙ m)
-      by_case same (inl (inr (t, a))) = inl (length q + a.0, a.1 ∙ ap Some (append_assoc old q (take a.0 (status_line script e)) ∙ ap (λ x. old ++ x) (sym (take-append-add q (status_line script e) a.0) ∙ ap (λ x. take (length q + a.0) (x ++ status_line script e)) same.0 ∙ ap (λ x. take (length q + a.0) (p ++ x)) same.1)))
-      by_case same (inr (t, a)) = cc
+      by_case : (text : Text) → (status ≡ ends.NoMemory) × Adds (old ++ text) [] now → AddsFront old (p ++ l) now ⊎ (Rose d0 d1 × CutsFault words files old now)
+      by_case text (a, put) = cc
 
-  depot_line_put : (old : Text) (e : Ending) (status : Status) → IfDepotFailedAdds (Ok e) old mid → IfSome mid (λ o. Concludes o script e status now)
-      → (status ≡ ending_status e) ⊎ ((status ≡ ends.SinkFailed) ⊎ (status ≡ ends.NoMemory)) → status ≡ ends.DepotFailed → TellsFault words old now
-  depot_line_put old ending.AtEnd status adds told (inl t) m = cc
-  depot_line_put old ending.Steps status adds told (inl t) m = cc
-  depot_line_put old ending.Missing status adds told (inl t) m = cc
-  depot_line_put old ending.TooLong status adds told (inl t) m = cc
-  depot_line_put old (ending.Faulty f) status adds told (inl t) m = cc
-  depot_line_put old ending.Unbuilt status adds told (inl t) m = cc
-  depot_line_put old ending.DepotFailed status adds told (inl t) m = by_case (concluded old [] ending.DepotFailed status adds told)
+  -- after a fault of the depot
+  depot_told : (Is : Text → Type 0) → ((file : Text) → Is file → Touches words file) → (files : Option Files) (before : Option Text) (old : Text) (mid now : Option Text)
+      (r : Result Ending Stop) (status : Status) (d0 d1 : ℕ) → before ≡ Some old → EndsWell r → Leading files before r mid → AddsSome old mid
+      → IfSome mid (λ o. Concludes o r status now) → Answers r status → DepotCause Is d0 d1 r → status ≡ ends.DepotFailed → TellsFault words files old now
+  depot_told Is touches files before old mid now (Ok e) status d0 d1 w well told some concluded (inl a) cause m = not_depot e.status well (sym a ∙ m)
+  depot_told Is touches files before old mid now (Ok e) status d0 d1 w well told some concluded (inr a) cause m = cc
+  depot_told Is touches files before old mid now (Err stop.SinkFailed) status d0 d1 w well told some concluded a cause m = cc
+  depot_told Is touches files before old mid now (Err (stop.DepotFailed file)) status d0 d1 w well told some concluded answers cause m =
+      by_case (printed_front files before mid old some.0 (stop.DepotFailed file) w told some.1) (behind old some.0 mid now (Err (stop.DepotFailed file)) status some.1 concluded)
     where
-      by_case : Concludes (old ++ []) script ending.DepotFailed status now → TellsFault words old now
-      by_case (inl (inl (u, a))) = record { steps = steps; script = script; words_run = is_run; added = a ∙ ap (λ x. Some (x ++ depot_line script)) (append-nil old) }
-      by_case (inl (inr (u, a))) = cc
-      by_case (inr (u, a)) = cc
-  depot_line_put old e status adds told (inr (inl t)) m = cc
-  depot_line_put old e status adds told (inr (inr t)) m = cc
+      by_case : IsPrintedFront words files some.0 → TellsDepot (old ++ some.0) file status now → TellsFault words files old now
+      by_case front (inl (inl (a, put))) = record {
+        file = file;
+        text = some.0;
+        touched = touches file cause.failed.1;
+        front = front;
+        added = put ∙ ap Some (append_assoc old some.0 (depot_line file));
+      }
+      by_case front (inl (inr (a, put))) = cc
+      by_case front (inr (a, put)) = cc
+  depot_told Is touches files before old mid now (Err stop.NoMemory) status d0 d1 w well told some concluded a cause m = cc
 
-  pub ok_begins : (e : Ending) (status : Status) → IfSome files (λ f. IfSome before (λ o. RunsTo script (f script) steps o (Ok e) mid))
-      → IfSome before (λ o. IfDepotFailedAdds (Ok e) o mid) → IfSome mid (λ o. Concludes o script e status now)
-      → (status ≡ ending_status e) ⊎ ((status ≡ ends.SinkFailed) ⊎ (status ≡ ends.NoMemory)) → (e ≡ ending.DepotFailed → Rose d0 d1)
-      → Begins words files before now d0 d1 status
-  ok_begins e status told untold concl which rose = record {
-    memory = λ fs old p l s f w m c. memory_front fs old p l s e status (told_left e fs old f w told) concl m c;
-    sink = λ fs old p l s f w m c. sink_front fs old p l s e status (told_left e fs old f w told) concl rose m c;
-    depot = λ old w m. let P : Option Text → Type 0 = λ b. IfSome b (λ o. IfDepotFailedAdds (Ok e) o mid) in depot_line_put old e status (subst P w untold) concl which m;
+  some_by : (before mid : Option Text) (old : Text) → before ≡ Some old → IfSome before (λ o. AddsSome o mid) → AddsSome old mid
+  some_by before mid old w untold = let P : Option Text → Type 0 = λ b. IfSome b (λ o. AddsSome o mid) in subst P w untold
+
+  pub command_begins : (Is : Text → Type 0) → ((file : Text) → Is file → Touches words file) → (files : Option Files) (before mid now : Option Text)
+      (r : Result Ending Stop) (status : Status) (d0 d1 : ℕ) → EndsWell r → Leading files before r mid → IfSome before (λ o. AddsSome o mid)
+      → IfSome mid (λ o. Concludes o r status now) → Answers r status → DepotCause Is d0 d1 r → Begins words files before now d0 d1 status
+  command_begins Is touches files before mid now r status d0 d1 well told untold concluded answers cause = record {
+    memory = λ fs old p l s f w m c. memory_front fs old p l s mid now r status well (left_by files before mid r fs old f w told) concluded m c;
+    sink = λ fs old p l s f w m c. sink_front Is touches files before fs old p l s mid now r status d0 d1 f w well told concluded cause m c;
+    depot = λ old w m. depot_told Is touches files before old mid now r status d0 d1 w well told (some_by before mid old w untold) concluded answers cause m;
   }
 
-  -- a run that was stopped
-  stopped_front : (stop : Stop) (fs : Files) (old p l : Text) (s : Status) → files ≡ Some fs → before ≡ Some old → IfSome files (λ f. IfSome before (λ o. RunsTo script (f script) steps o (Err stop) mid))
-      → CommandEnds fs words p l s → AddsFront old p mid
-  stopped_front stop fs old p l s f w told c =
-      let P : Option Files → Type 0 = λ x. IfSome x (λ g. IfSome before (λ o. RunsTo script (g script) steps o (Err stop) mid)) in
-      let Q : Option Text → Type 0 = λ b. IfSome b (λ o. RunsTo script (fs script) steps o (Err stop) mid) in
-      subst Q w (subst P f told) p l s (script_ends fs words steps script p l s is_run c)
+-- ---- words and files
 
-  longer_front : (old p l : Text) → AddsFront old p mid → AddsFront old (p ++ l) mid
-  longer_front old p l front =
-      (min front.0 (length p), front.1 ∙ ap (λ x. Some (old ++ x)) (take-min front.0 p ∙ sym (take-append-le (min front.0 (length p)) p l (min_le front.0 (length p)))))
+never_usage : (r : Result Ending Stop) (status : Status) → EndsWell r → Answers r status → status ≡ ends.Usage → ⊥
+never_usage (Ok e) status well (inl a) m = not_usage e.status well (sym a ∙ m)
+never_usage (Ok e) status well (inr a) m = cc
+never_usage (Err stop.SinkFailed) status well a m = cc
+never_usage (Err (stop.DepotFailed file)) status well (inl a) m = cc
+never_usage (Err (stop.DepotFailed file)) status well (inr (inl a)) m = cc
+never_usage (Err (stop.DepotFailed file)) status well (inr (inr a)) m = cc
+never_usage (Err stop.NoMemory) status well a m = cc
 
-  pub sink_begins : (stop : Stop) → IfSome files (λ f. IfSome before (λ o. RunsTo script (f script) steps o (Err stop) mid)) → Begins words files before mid d0 d1 ends.SinkFailed
-  sink_begins stop told = record {
-    memory = λ fs old p l s f w m c. cc;
-    sink = λ fs old p l s f w m c. inl (longer_front old p l (stopped_front stop fs old p l s f w told c));
-    depot = λ old w m. cc;
-  }
+pub command_usage : (words : List Text) (before now : Option Text) (r : Result Ending Stop) (status : Status) → Command words → EndsWell r → Answers r status → TellsUsage words before now status
+command_usage words before now r status command well answers =
+    record { exactly = λ e. absurd (never_usage r status well answers e); always = λ none. absurd (none command) }
 
-  pub memory_begins : (stop : Stop) → IfSome files (λ f. IfSome before (λ o. RunsTo script (f script) steps o (Err stop) mid)) → Begins words files before mid d0 d1 ends.NoMemory
-  memory_begins stop told = record {
-    memory = λ fs old p l s f w m c. stopped_front stop fs old p l s f w told c;
-    sink = λ fs old p l s f w m c. cc;
-    depot = λ old w m. cc;
-  }
+pub run_leaves : (words : List Text) (files now : Option Files) (status : Status) (steps : ℕ) (script : Text) → IsRun words steps script → IfSome files (λ fs. Keeps fs now)
+    → IfSome files (λ fs. Leaves words fs now status)
+run_leaves words None now status steps script is same = tt
+run_leaves words (Some fs) now status steps script is same =
+    record { builds = λ steps' name other. absurd (not_two words steps steps' script name is other); others = λ none. same }
+
+precompiles : (files : Files) (name : Text) (steps : ℕ) (now : Option Files) (r : Result Ending Stop) (status : Status) → Builds files name steps r now → Answers r status
+    → Precompiles files name steps now status
+precompiles files name steps now (Ok e) status (rest, (written, kept)) (inl a) =
+    record { rest = rest; written = λ ok. written (sym a ∙ ok); kept = λ no nd ns nm. kept (λ ok. no (a ∙ ok)) }
+precompiles files name steps now (Ok e) status (rest, (written, kept)) (inr a) =
+    record { rest = rest; written = λ ok. cc; kept = λ no nd ns nm. absurd (ns a) }
+precompiles files name steps now (Err stop.SinkFailed) status rest a =
+    record { rest = rest; written = λ ok. cc; kept = λ no nd ns nm. absurd (ns a) }
+precompiles files name steps now (Err (stop.DepotFailed file)) status rest (inl a) =
+    record { rest = rest; written = λ ok. cc; kept = λ no nd ns nm. absurd (nd a) }
+precompiles files name steps now (Err (stop.DepotFailed file)) status rest (inr (inl a)) =
+    record { rest = rest; written = λ ok. cc; kept = λ no nd ns nm. absurd (ns a) }
+precompiles files name steps now (Err (stop.DepotFailed file)) status rest (inr (inr a)) =
+    record { rest = rest; written = λ ok. cc; kept = λ no nd ns nm. absurd (nm a) }
+precompiles files name steps now (Err stop.NoMemory) status rest a =
+    record { rest = rest; written = λ ok. cc; kept = λ no nd ns nm. absurd (nm a) }
+
+pub precompile_leaves : (words : List Text) (files now : Option Files) (r : Result Ending Stop) (status : Status) (steps : ℕ) (name : Text) → IsPrecompile words steps name
+    → IfSome files (λ fs. Builds fs name steps r now) → Answers r status → IfSome files (λ fs. Leaves words fs now status)
+precompile_leaves words None now r status steps name is builds answers = tt
+precompile_leaves words (Some fs) now r status steps name is builds answers = record {
+  builds = λ steps' name' other.
+      let same = one_precompile words steps steps' name name' is other in
+      subst (λ n. Precompiles fs n steps' now status) same.1 (subst (λ k. Precompiles fs name k now status) same.0 (precompiles fs name steps now r status builds answers));
+  others = λ none. absurd (none steps name is);
+}
+
+-- ---- the two commands
+
+-- a run reads its script, and images of packages
+pub run_touches : (words : List Text) (steps : ℕ) (script : Text) → IsRun words steps script → (file : Text) → IsRead script file → Touches words file
+run_touches words steps script is file (inl e) = subst (Touches words) (sym e) (Touches.reads_script steps script is)
+run_touches words steps script is file (inr (name, e)) = subst (Touches words) (sym e) (Touches.reads_image steps script name is)
+
+-- a building reads the package's text and writes its image
+pub precompile_touches : (words : List Text) (steps : ℕ) (name : Text) → IsPrecompile words steps name → (file : Text) → IsOfPackage name file → Touches words file
+precompile_touches words steps name is file (inl e) = subst (Touches words) (sym e) (Touches.reads_text steps name is)
+precompile_touches words steps name is file (inr e) = subst (Touches words) (sym e) (Touches.writes_image steps name is)
+
+abbrev pub of_run : Text → ℕ → Files → Text → Text → Status → Type 0
+of_run script steps files = ScriptEnds files script steps
+
+abbrev pub of_precompile : Text → ℕ → Files → Text → Text → Status → Type 0
+of_precompile name steps files = PackageEnds files name steps
+
+pub run_to : (words : List Text) (steps : ℕ) (script : Text) → IsRun words steps script → (fs : Files) (p l : Text) (s : Status) → of_run script steps fs p l s → CommandEnds fs words p l s
+run_to words steps script is fs p l s e = run steps script p l s is e
+
+pub run_from : (words : List Text) (steps : ℕ) (script : Text) → IsRun words steps script → (fs : Files) (p l : Text) (s : Status) → CommandEnds fs words p l s → of_run script steps fs p l s
+run_from words steps script is fs p l s c = script_ends fs words steps script p l s is c
+
+pub precompile_to : (words : List Text) (steps : ℕ) (name : Text) → IsPrecompile words steps name → (fs : Files) (p l : Text) (s : Status) → of_precompile name steps fs p l s
+    → CommandEnds fs words p l s
+precompile_to words steps name is fs p l s e = precompile steps name p l s is e
+
+pub precompile_from : (words : List Text) (steps : ℕ) (name : Text) → IsPrecompile words steps name → (fs : Files) (p l : Text) (s : Status) → CommandEnds fs words p l s
+    → of_precompile name steps fs p l s
+precompile_from words steps name is fs p l s c = package_ends fs words steps name p l s is c

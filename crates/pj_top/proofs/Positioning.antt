@@ -1,7 +1,7 @@
 -- Positions behind bytes, one by one.
-use Rattle.std.proofs.Common.{◌≡◌, ℕ, zero, suc, ◌+◌, ◌<◌, ◌≤◌, Bool, true, false, cond, ◌||◌, ◌==◌, nat_le, nat_lt, List, [], ◌∷◌, drop, take, length, slice_index_or, ◌⊎◌, inl, inr, refl, sym, ap, ◌∙◌, arith}
+use Rattle.std.proofs.Common.{◌≡◌, ℕ, zero, suc, ◌+◌, ◌<◌, ◌≤◌, Bool, true, false, cond, ◌==◌, List, [], ◌∷◌, drop, take, length, slice_index_or, ◌⊎◌, inl, inr, refl, sym, ap, ◌∙◌, arith}
 use Rattle.std.proofs.lemmas.List.{drop_all, take_all}
-use Rattle.pj_top.specs.Positions.{begins_character, behind, past, position_of}
+use Rattle.pj_top.specs.Positions.{begins_character, behind, past}
 use Rattle.pj_top.specs.declared.position.Position.{Position}
 
 -- one byte more

@@ -1,162 +1,169 @@
--- What a run of a script leaves where the depot tells its files and the sink what was put.
-use Rattle.std.proofs.Common.{◌≡◌, ℕ, ◌<◌, ◌≤◌, Bool, true, false, List, [], ◌∷◌, ◌++◌, Option, Some, None, Result, Ok, Err, length, map, refl, sym, ap, subst, ◌∙◌, arith}
-use Rattle.std.specs.Option.{IfSome, IsSomeAnd}
-use Rattle.std.proofs.lemmas.List.{append-nil}
-use Rattle.pj_meaning.specs.Tree.{Text, TopItem}
-use Rattle.pj_meaning.specs.Script.{Ending, AtEnd, OutOfSteps}
+-- A command over files has one ending: the run of a script has one, and so has the building of a package.
+use Rattle.std.proofs.Common.{◌≡◌, ℕ, ◌<◌, ◌≤◌, true, false, List, [], ◌∷◌, length, refl, sym, ap, subst, ◌∙◌, arith}
+use Rattle.std.proofs.lemmas.Bool.{false≢true}
+use Rattle.std.proofs.lemmas.Fmt.{decimal_injective}
+use Rattle.pj_meaning.specs.Tree.{Text}
 use Rattle.pj_meaning.specs.Endings.{ending_line}
 use Rattle.pj_outside.specs.Stored.{Files}
 use Rattle.pj_lex.specs.declared.fault.SyntaxKind.{SyntaxKind}
+use Rattle.pj_tree.specs.declared.item.PackageTree.{PackageTree}
 use Rattle.pj_tree.specs.declared.item.ScriptTree.{ScriptTree}
-use Rattle.pj_plain.specs.Held.{held_script}
-use Rattle.pj_plain.specs.Plain.{plain_items}
-use Rattle.pj_text.specs.Texts.{IsScript, IsScriptFault}
-use Rattle.pj_text.proofs.Scripts.{no-fault, one-script}
-use Rattle.pj_top.specs.Claims.{Adds, AddsFront}
-use Rattle.pj_top.specs.Endings.{ScriptEnds, absent, long, faulty, unbuilt, runs, text_limit, missing_line, too_long_line, syntax_line, status_of, ending_of, printed_of}
+use Rattle.pj_plain.specs.Held.{held_package, held_script}
+use Rattle.pj_plain.specs.Forms.{package_form, script_form}
+use Rattle.pj_text.specs.Texts.{IsPackage, IsPackageFault, IsScript, IsScriptFault}
+use Rattle.pj_text.proofs.Readings.{one-fault}
+use Rattle.pj_text.proofs.Scripts.{no-fault, no-package-fault, one-package, one-script, one-script-fault}
 use Rattle.pj_top.specs.Positions.{position_of}
-use Rattle.pj_top.specs.declared.position.Position.{Position}
-use Rattle.pj_top.specs.Stops.{RunsTo, Reaches, RunsTree, ReachesTree, TreeEnds, not_plain, plain_end, plain_stop, tree_prints, status_line, ending_status, IfDepotFailed, IfDepotFailedAdds}
+use Rattle.pj_top.specs.Commands.{Command, IsPrecompile, IsRun}
+use Rattle.pj_top.specs.Endings.{ScriptEnds, PackageEnds, CommandEnds, no_command, run, precompile, text_limit, text_file, syntax_line, ending_of, printed_of, status_of, building, built_line, built_printed, built_status}
+use Rattle.pj_top.specs.Endings.{absent, long, faulty, unbuilt, runs, builds}
 use Rattle.pj_top.specs.declared.status.Status.{Status}
-use Rattle.pj_top.specs.declared.status.Status.TheVariants as ends
-use Rattle.pj_top.specs.declared.stop.Stop.{Stop}
-use Rattle.pj_top.specs.declared.stop.Ending.{Ending as Stopped}
-use Rattle.pj_top.specs.declared.stop.Ending.TheVariants as ending
 
--- nothing was put
-abbrev pub EndsWithout : Option Files → Option Text → Text → ℕ → Text → Status → Type 0
-EndsWithout files written name steps line status =
-    IfSome files (λ fs. IfSome written (λ old. (printed : Text) × Adds old printed written × ScriptEnds name (fs name) steps printed line status))
+-- a file isn't both within the limit and beyond it
+too_long : (a b : Text) → a ≡ b → text_limit < length a → length b ≤ text_limit → ⊥
+too_long a b same past short = omega (arith, past, short, ap (λ (x : Text). length x) same)
 
-unput : (written : Option Text) (name : Text) (file : Option Text) (steps : ℕ) (line : Text) (status : Status) → ScriptEnds name file steps [] line status
-    → IfSome written (λ old. (printed : Text) × Adds old printed written × ScriptEnds name file steps printed line status)
-unput None name file steps line status ends' = tt
-unput (Some old) name file steps line status ends' = ([], ap Some (sym (append-nil old)), ends')
+same_line : (name a b : Text) (o r : ℕ) (w x : SyntaxKind) → a ≡ b → o ≡ r → w ≡ x → syntax_line name (position_of a o) w ≡ syntax_line name (position_of b r) x
+same_line name a b o r w x bytes places kinds =
+    ap (λ y. syntax_line name (position_of y o) w) bytes ∙ ap (λ y. syntax_line name (position_of b y) w) places ∙ ap (λ y. syntax_line name (position_of b r) y) kinds
 
-pub absent_told : (files : Option Files) (written : Option Text) (name : Text) (steps : ℕ) → IfSome files (λ fs. fs name ≡ None) → EndsWithout files written name steps (missing_line name) ends.Missing
-absent_told None written name steps told = tt
-absent_told (Some fs) written name steps told = unput written name (fs name) steps (missing_line name) ends.Missing (absent told)
+-- ---- a script
 
-pub absent_ends : (files : Option Files) (name : Text) (steps : ℕ) → IfSome files (λ fs. fs name ≡ None)
-    → IfSome files (λ fs. (printed : Text) × ScriptEnds name (fs name) steps printed (missing_line name) ends.Missing)
-absent_ends None name steps told = tt
-absent_ends (Some fs) name steps told = ([], absent told)
+-- a tree isn't both of the form that runs and of another
+script_forms : (a b : ScriptTree) → a ≡ b → script_form (held_script a) ≡ false → script_form (held_script b) ≡ true → ⊥
+script_forms a b same other form = false≢true (sym other ∙ ap (λ t. script_form (held_script t)) same ∙ form)
 
-some_and : (o : Option Text) (limit : ℕ) → IsSomeAnd o (λ bytes. limit < length bytes) → (bytes : Text) × (o ≡ Some bytes) × (limit < length bytes)
-some_and None limit h = elim h [ ]
-some_and (Some bytes) limit h = (bytes, refl, h)
+-- the run of a script has one ending
+pub one_script_end : (files : Files) (name : Text) (steps : ℕ) (p l q m : Text) (s t : Status) → ScriptEnds files name steps p l s → ScriptEnds files name steps q m t → (p ≡ q) × (l ≡ m) × (s ≡ t)
+one_script_end files name steps p l q m s t (absent e) (absent f) = (refl, refl, refl)
+one_script_end files name steps p l q m s t (absent e) (long b f k) = cc
+one_script_end files name steps p l q m s t (absent e) (faulty b o w f k n) = cc
+one_script_end files name steps p l q m s t (absent e) (unbuilt b i f k n v) = cc
+one_script_end files name steps p l q m s t (absent e) (runs b i f k n v) = cc
+one_script_end files name steps p l q m s t (long a e h) (absent f) = cc
+one_script_end files name steps p l q m s t (long a e h) (long b f k) = (refl, refl, refl)
+one_script_end files name steps p l q m s t (long a e h) (faulty b o w f k n) = absurd (too_long a b (cc) h k)
+one_script_end files name steps p l q m s t (long a e h) (unbuilt b i f k n v) = absurd (too_long a b (cc) h k)
+one_script_end files name steps p l q m s t (long a e h) (runs b i f k n v) = absurd (too_long a b (cc) h k)
+one_script_end files name steps p l q m s t (faulty a o w e h j) (absent f) = cc
+one_script_end files name steps p l q m s t (faulty a o w e h j) (long b f k) = absurd (too_long b a (cc) k h)
+one_script_end files name steps p l q m s t (faulty a o w e h j) (faulty b r x f k n) =
+    let same : b ≡ a = cc in
+    let one = one-script-fault j (subst (λ y. IsScriptFault y r x) same n) in
+    (refl, same_line name a b o r w x (sym same) one.0 one.1, refl)
+one_script_end files name steps p l q m s t (faulty a o w e h j) (unbuilt b i f k n v) = let same : b ≡ a = cc in absurd (no-fault (subst (λ y. IsScript y i) same n) j)
+one_script_end files name steps p l q m s t (faulty a o w e h j) (runs b i f k n v) = let same : b ≡ a = cc in absurd (no-fault (subst (λ y. IsScript y i) same n) j)
+one_script_end files name steps p l q m s t (unbuilt a i e h j u) (absent f) = cc
+one_script_end files name steps p l q m s t (unbuilt a i e h j u) (long b f k) = absurd (too_long b a (cc) k h)
+one_script_end files name steps p l q m s t (unbuilt a i e h j u) (faulty b o w f k n) = let same : b ≡ a = cc in absurd (no-fault j (subst (λ y. IsScriptFault y o w) same n))
+one_script_end files name steps p l q m s t (unbuilt a i e h j u) (unbuilt b o f k n v) = (refl, refl, refl)
+one_script_end files name steps p l q m s t (unbuilt a i e h j u) (runs b o f k n v) = let same : b ≡ a = cc in absurd (script_forms i o (one-script j (subst (λ y. IsScript y o) same n)) u v)
+one_script_end files name steps p l q m s t (runs a i e h j u) (absent f) = cc
+one_script_end files name steps p l q m s t (runs a i e h j u) (long b f k) = absurd (too_long b a (cc) k h)
+one_script_end files name steps p l q m s t (runs a i e h j u) (faulty b o w f k n) = let same : b ≡ a = cc in absurd (no-fault j (subst (λ y. IsScriptFault y o w) same n))
+one_script_end files name steps p l q m s t (runs a i e h j u) (unbuilt b o f k n v) = let same : b ≡ a = cc in absurd (script_forms o i (sym (one-script j (subst (λ y. IsScript y o) same n))) v u)
+one_script_end files name steps p l q m s t (runs a i e h j u) (runs b o f k n v) =
+    let same : b ≡ a = cc in
+    let one = one-script j (subst (λ y. IsScript y o) same n) in
+    (ap (λ y. printed_of files (held_script y) steps) one, ap (λ y. ending_line (ending_of files (held_script y) steps)) one, ap (λ y. status_of (ending_of files (held_script y) steps)) one)
 
-pub long_told : (files : Option Files) (written : Option Text) (name : Text) (steps : ℕ) → IfSome files (λ fs. IsSomeAnd (fs name) (λ bytes. text_limit < length bytes))
-    → EndsWithout files written name steps (too_long_line name) ends.TooLong
-long_told None written name steps told = tt
-long_told (Some fs) written name steps told =
-    let some = some_and (fs name) text_limit told in
-    unput written name (fs name) steps (too_long_line name) ends.TooLong (long some.0 some.1 some.2)
+-- ---- a package
 
-pub long_ends : (files : Option Files) (name : Text) (steps : ℕ) → IfSome files (λ fs. IsSomeAnd (fs name) (λ bytes. text_limit < length bytes))
-    → IfSome files (λ fs. (printed : Text) × ScriptEnds name (fs name) steps printed (too_long_line name) ends.TooLong)
-long_ends None name steps told = tt
-long_ends (Some fs) name steps told =
-    let some = some_and (fs name) text_limit told in
-    ([], long some.0 some.1 some.2)
+package_forms : (a b : PackageTree) → a ≡ b → package_form (held_package a) ≡ false → package_form (held_package b) ≡ true → ⊥
+package_forms a b same other form = false≢true (sym other ∙ ap (λ t. package_form (held_package t)) same ∙ form)
 
-pub fault_ends : (files : Option Files) (name : Text) (steps : ℕ) (bytes : Text) (place : ℕ) (kind : SyntaxKind) (at : Position) → at ≡ position_of bytes place
-    → IfSome files (λ fs. fs name ≡ Some bytes) → length bytes ≤ text_limit → IsScriptFault bytes place kind
-    → IfSome files (λ fs. (printed : Text) × ScriptEnds name (fs name) steps printed (syntax_line name at kind) ends.Syntax)
-fault_ends None name steps bytes place kind at there told short fault = tt
-fault_ends (Some fs) name steps bytes place kind at there told short fault =
-    ([], subst (λ p. ScriptEnds name (fs name) steps [] (syntax_line name p kind) ends.Syntax) (sym there) (faulty bytes place kind told short fault))
+one_package_fault : (name bytes : Text) (p q : ℕ) (a b : SyntaxKind) → IsPackageFault name bytes p a → IsPackageFault name bytes q b → (p ≡ q) × (a ≡ b)
+one_package_fault name bytes p q a b f g = one-fault _ name bytes p q a b f g
 
-pub fault_told : (files : Option Files) (written : Option Text) (name : Text) (steps : ℕ) (bytes : Text) (place : ℕ) (kind : SyntaxKind) (at : Position) → at ≡ position_of bytes place
-    → IfSome files (λ fs. fs name ≡ Some bytes) → length bytes ≤ text_limit → IsScriptFault bytes place kind
-    → EndsWithout files written name steps (syntax_line name at kind) ends.Syntax
-fault_told None written name steps bytes place kind at there told short fault = tt
-fault_told (Some fs) written name steps bytes place kind at there told short fault =
-    unput written name (fs name) steps (syntax_line name at kind) ends.Syntax
-    (subst (λ p. ScriptEnds name (fs name) steps [] (syntax_line name p kind) ends.Syntax) (sym there) (faulty bytes place kind told short fault))
+-- the building of a package has one ending
+pub one_package_end : (files : Files) (name : Text) (steps : ℕ) (p l q m : Text) (s t : Status) → PackageEnds files name steps p l s → PackageEnds files name steps q m t → (p ≡ q) × (l ≡ m) × (s ≡ t)
+one_package_end files name steps p l q m s t (absent e) (absent f) = (refl, refl, refl)
+one_package_end files name steps p l q m s t (absent e) (long b f k) = cc
+one_package_end files name steps p l q m s t (absent e) (faulty b o w f k n) = cc
+one_package_end files name steps p l q m s t (absent e) (unbuilt b i f k n v) = cc
+one_package_end files name steps p l q m s t (absent e) (builds b i f k n v) = cc
+one_package_end files name steps p l q m s t (long a e h) (absent f) = cc
+one_package_end files name steps p l q m s t (long a e h) (long b f k) = (refl, refl, refl)
+one_package_end files name steps p l q m s t (long a e h) (faulty b o w f k n) = absurd (too_long a b (cc) h k)
+one_package_end files name steps p l q m s t (long a e h) (unbuilt b i f k n v) = absurd (too_long a b (cc) h k)
+one_package_end files name steps p l q m s t (long a e h) (builds b i f k n v) = absurd (too_long a b (cc) h k)
+one_package_end files name steps p l q m s t (faulty a o w e h j) (absent f) = cc
+one_package_end files name steps p l q m s t (faulty a o w e h j) (long b f k) = absurd (too_long b a (cc) k h)
+one_package_end files name steps p l q m s t (faulty a o w e h j) (faulty b r x f k n) =
+    let same : b ≡ a = cc in
+    let one = one_package_fault name a o r w x j (subst (λ y. IsPackageFault name y r x) same n) in
+    (refl, same_line (text_file name) a b o r w x (sym same) one.0 one.1, refl)
+one_package_end files name steps p l q m s t (faulty a o w e h j) (unbuilt b i f k n v) = let same : b ≡ a = cc in absurd (no-package-fault (subst (λ y. IsPackage name y i) same n) j)
+one_package_end files name steps p l q m s t (faulty a o w e h j) (builds b i f k n v) = let same : b ≡ a = cc in absurd (no-package-fault (subst (λ y. IsPackage name y i) same n) j)
+one_package_end files name steps p l q m s t (unbuilt a i e h j u) (absent f) = cc
+one_package_end files name steps p l q m s t (unbuilt a i e h j u) (long b f k) = absurd (too_long b a (cc) k h)
+one_package_end files name steps p l q m s t (unbuilt a i e h j u) (faulty b o w f k n) = let same : b ≡ a = cc in absurd (no-package-fault j (subst (λ y. IsPackageFault name y o w) same n))
+one_package_end files name steps p l q m s t (unbuilt a i e h j u) (unbuilt b o f k n v) = (refl, refl, refl)
+one_package_end files name steps p l q m s t (unbuilt a i e h j u) (builds b o f k n v) = let same : b ≡ a = cc in absurd (package_forms i o (one-package j (subst (λ y. IsPackage name y o) same n)) u v)
+one_package_end files name steps p l q m s t (builds a i e h j u) (absent f) = cc
+one_package_end files name steps p l q m s t (builds a i e h j u) (long b f k) = absurd (too_long b a (cc) k h)
+one_package_end files name steps p l q m s t (builds a i e h j u) (faulty b o w f k n) = let same : b ≡ a = cc in absurd (no-package-fault j (subst (λ y. IsPackageFault name y o w) same n))
+one_package_end files name steps p l q m s t (builds a i e h j u) (unbuilt b o f k n v) = let same : b ≡ a = cc in absurd (package_forms o i (sym (one-package j (subst (λ y. IsPackage name y o) same n))) v u)
+one_package_end files name steps p l q m s t (builds a i e h j u) (builds b o f k n v) =
+    let same : b ≡ a = cc in
+    let one = one-package j (subst (λ y. IsPackage name y o) same n) in
+    (ap (λ y. built_printed (building y steps)) one, ap (λ y. built_line (building y steps)) one, ap (λ y. built_status (building y steps)) one)
 
-module _ (name : Text) (file : Option Text) (steps : ℕ) (bytes : Text) (tree : ScriptTree) (is : file ≡ Some bytes) (short : length bytes ≤ text_limit) (spelled : IsScript bytes tree) where
-  abbrev items : List TopItem
-  items = held_script tree
+-- ---- words are one command, with one number and one name
 
-  -- the end of the run of a tree is that of its script
-  whole : (printed : Text) (e : Ending) → plain_items [] items ≡ true → ending_of items steps ≡ e → printed_of items steps ≡ printed
-      → ScriptEnds name file steps printed (ending_line e) (status_of e)
-  whole printed e plain ends' prints =
-      subst (λ x. ScriptEnds name file steps printed (ending_line x) (status_of x)) ends'
-      (subst (λ x. ScriptEnds name file steps x (ending_line (ending_of items steps)) (status_of (ending_of items steps))) prints
-      (runs bytes tree is short spelled plain))
+abbrev first_of : List Text → Text
+first_of [] = []
+first_of (a ∷ ws) = a
 
-  reached : (printed : Text) (e : Stopped) → TreeEnds tree steps printed e → ScriptEnds name file steps printed (status_line name e) (ending_status e)
-  reached printed e (not_plain h) = unbuilt bytes tree is short spelled h
-  reached printed e (plain_end h ends') = whole _ AtEnd h ends' refl
-  reached printed e (plain_stop h ends') = whole _ OutOfSteps h ends' refl
+abbrev second_of : List Text → Text
+second_of [] = []
+second_of (a ∷ []) = []
+second_of (a ∷ b ∷ ws) = b
 
-  -- whatever the run is said to print is what the run of the tree prints
-  prints_so : (printed line : Text) (status : Status) → ScriptEnds name file steps printed line status → printed ≡ tree_prints (plain_items [] items) (printed_of items steps)
-  prints_so printed line status (absent e) = cc
-  prints_so printed line status (long other e past) = let same : other ≡ bytes = cc in absurd (omega (arith, past, short, ap (λ (t : Text). length t) same))
-  prints_so printed line status (faulty other place kind e le fault) = let same : other ≡ bytes = cc in absurd (no-fault spelled (subst (λ t. IsScriptFault t place kind) same fault))
-  prints_so printed line status (unbuilt other tree' e le spells none) =
-      let same : other ≡ bytes = cc in
-      let one = one-script spelled (subst (λ t. IsScript t tree') same spells) in
-      sym (ap (λ b. tree_prints b (printed_of items steps)) (ap (λ t. plain_items [] (held_script t)) one ∙ none))
-  prints_so printed line status (runs other tree' e le spells plain) =
-      let same : other ≡ bytes = cc in
-      let one = one-script spelled (subst (λ t. IsScript t tree') same spells) in
-      ap (λ t. printed_of (held_script t) steps) (sym one) ∙ sym (ap (λ b. tree_prints b (printed_of items steps)) (ap (λ t. plain_items [] (held_script t)) one ∙ plain))
+abbrev third_of : List Text → Text
+third_of [] = []
+third_of (a ∷ []) = []
+third_of (a ∷ b ∷ []) = []
+third_of (a ∷ b ∷ c ∷ ws) = c
 
-  runs_to : (old : Text) (result : Result Stopped Stop) (now : Option Text) → RunsTree tree steps old result now → RunsTo name file steps old result now
-  runs_to old (Ok ending.AtEnd) now (printed, adds, ends') = (printed, adds, reached printed ending.AtEnd ends')
-  runs_to old (Ok ending.Steps) now (printed, adds, ends') = (printed, adds, reached printed ending.Steps ends')
-  runs_to old (Ok ending.Missing) now (printed, adds, ends') = (printed, adds, reached printed ending.Missing ends')
-  runs_to old (Ok ending.TooLong) now (printed, adds, ends') = (printed, adds, reached printed ending.TooLong ends')
-  runs_to old (Ok (ending.Faulty m)) now (printed, adds, ends') = (printed, adds, reached printed (ending.Faulty m) ends')
-  runs_to old (Ok ending.Unbuilt) now (printed, adds, ends') = (printed, adds, reached printed ending.Unbuilt ends')
-  runs_to old (Ok ending.DepotFailed) now (printed, adds, ends') = absurd (never_depot printed ends')
-    where
-      never_depot : (printed : Text) → TreeEnds tree steps printed ending.DepotFailed → ⊥
-      never_depot printed h = elim h [ ]
-  runs_to old (Err stop) now puts = λ printed line status e. subst (λ t. AddsFront old t now) (sym (prints_so printed line status e)) puts
+pub one_run : (words : List Text) (m n : ℕ) (a b : Text) → IsRun words m a → IsRun words n b → (m ≡ n) × (a ≡ b)
+one_run words m n a b x y =
+    let both = sym x.spelled ∙ y.spelled in
+    (decimal_injective m n (omega (arith, x.few)) (omega (arith, y.few)) (ap second_of both), ap third_of both)
 
-  run_told : (written : Option Text) (result : Result Stopped Stop) (now : Option Text) → IfSome written (λ old. RunsTree tree steps old result now)
-      → IfSome written (λ old. RunsTo name file steps old result now)
-  run_told None result now puts = tt
-  run_told (Some old) result now puts = runs_to old result now puts
+pub one_precompile : (words : List Text) (m n : ℕ) (a b : Text) → IsPrecompile words m a → IsPrecompile words n b → (m ≡ n) × (a ≡ b)
+one_precompile words m n a b x y =
+    let both = sym x.spelled ∙ y.spelled in
+    (decimal_injective m n (omega (arith, x.few)) (omega (arith, y.few)) (ap second_of both), ap third_of both)
 
-  reaches : (result : Result Stopped Stop) → ReachesTree tree steps result → Reaches name file steps result
-  reaches (Ok ending.AtEnd) (printed, ends') = (printed, reached printed ending.AtEnd ends')
-  reaches (Ok ending.Steps) (printed, ends') = (printed, reached printed ending.Steps ends')
-  reaches (Ok ending.Missing) (printed, ends') = (printed, reached printed ending.Missing ends')
-  reaches (Ok ending.TooLong) (printed, ends') = (printed, reached printed ending.TooLong ends')
-  reaches (Ok (ending.Faulty m)) (printed, ends') = (printed, reached printed (ending.Faulty m) ends')
-  reaches (Ok ending.Unbuilt) (printed, ends') = (printed, reached printed ending.Unbuilt ends')
-  reaches (Ok ending.DepotFailed) ends' = tt
-  reaches (Err stop) ends' = tt
+pub not_two : (words : List Text) (m n : ℕ) (a b : Text) → IsRun words m a → IsPrecompile words n b → ⊥
+not_two words m n a b x y =
+    let both = sym x.spelled ∙ y.spelled in
+    let lengths : 3 ≡ 10 = ap (λ ws. length (first_of ws)) both in
+    omega (arith, lengths)
 
-pub script_ends : (files : Option Files) (name : Text) (steps : ℕ) (bytes : Text) (tree : ScriptTree) → IfSome files (λ fs. fs name ≡ Some bytes) → length bytes ≤ text_limit
-    → IsScript bytes tree → (result : Result Stopped Stop) → ReachesTree tree steps result → IfSome files (λ fs. Reaches name (fs name) steps result)
-script_ends None name steps bytes tree told short spelled result ends' = tt
-script_ends (Some fs) name steps bytes tree told short spelled result ends' = reaches name (fs name) steps bytes tree told short spelled result ends'
+-- a run's ending is that of its script
+pub script_ends : (files : Files) (words : List Text) (steps : ℕ) (script : Text) (p l : Text) (s : Status) → IsRun words steps script → CommandEnds files words p l s → ScriptEnds files script steps p l s
+script_ends files words steps script p l s r (no_command none) = absurd (none (Command.runs steps script r))
+script_ends files words steps script p l s r (run steps' script' p' l' s' r' e) =
+    let same = one_run words steps steps' script script' r r' in
+    subst (λ n. ScriptEnds files script n p' l' s') (sym same.0) (subst (λ x. ScriptEnds files x steps' p' l' s') (sym same.1) e)
+script_ends files words steps script p l s r (precompile steps' name' p' l' s' r' e) = absurd (not_two words steps steps' script name' r r')
 
-pub script_told : (files : Option Files) (written : Option Text) (name : Text) (steps : ℕ) (bytes : Text) (tree : ScriptTree) → IfSome files (λ fs. fs name ≡ Some bytes) → length bytes ≤ text_limit
-    → IsScript bytes tree → (result : Result Stopped Stop) (now : Option Text) → IfSome written (λ old. RunsTree tree steps old result now)
-    → IfSome files (λ fs. IfSome written (λ old. RunsTo name (fs name) steps old result now))
-script_told None written name steps bytes tree told short spelled result now puts = tt
-script_told (Some fs) written name steps bytes tree told short spelled result now puts = run_told name (fs name) steps bytes tree told short spelled written result now puts
+-- the ending of a building is that of its package
+pub package_ends : (files : Files) (words : List Text) (steps : ℕ) (name : Text) (p l : Text) (s : Status) → IsPrecompile words steps name → CommandEnds files words p l s → PackageEnds files name steps p l s
+package_ends files words steps name p l s r (no_command none) = absurd (none (Command.precompiles steps name r))
+package_ends files words steps name p l s r (run steps' script' p' l' s' r' e) = absurd (not_two words steps' steps script' name r' r)
+package_ends files words steps name p l s r (precompile steps' name' p' l' s' r' e) =
+    let same = one_precompile words steps steps' name name' r r' in
+    subst (λ n. PackageEnds files name n p' l' s') (sym same.0) (subst (λ x. PackageEnds files x steps' p' l' s') (sym same.1) e)
 
--- the run of a tree is no fault of the depot
-pub no_depot : (tree : ScriptTree) (steps : ℕ) (result : Result Stopped Stop) (P : Type 0) → ReachesTree tree steps result → IfDepotFailed result P
-no_depot tree steps (Ok ending.AtEnd) P h = tt
-no_depot tree steps (Ok ending.Steps) P h = tt
-no_depot tree steps (Ok ending.Missing) P h = tt
-no_depot tree steps (Ok ending.TooLong) P h = tt
-no_depot tree steps (Ok (ending.Faulty m)) P h = tt
-no_depot tree steps (Ok ending.Unbuilt) P h = tt
-no_depot tree steps (Ok ending.DepotFailed) P (printed, h) = elim h [ ]
-no_depot tree steps (Err stop) P h = tt
-
-pub no_depot_adds : (tree : ScriptTree) (steps : ℕ) (result : Result Stopped Stop) (written now : Option Text) → ReachesTree tree steps result
-    → IfSome written (λ old. IfDepotFailedAdds result old now)
-no_depot_adds tree steps result None now h = tt
-no_depot_adds tree steps result (Some old) now h = no_depot tree steps result (Adds old [] now) h
+-- a command has one ending
+pub one_ending : (files : Files) (words : List Text) (p l q m : Text) (s t : Status) → CommandEnds files words p l s → CommandEnds files words q m t → (p ≡ q) × (l ≡ m) × (s ≡ t)
+one_ending files words p l q m s t (no_command n) (no_command o) = (refl, refl, refl)
+one_ending files words p l q m s t (no_command n) (run steps script q' m' t' r e) = absurd (n (Command.runs steps script r))
+one_ending files words p l q m s t (no_command n) (precompile steps name q' m' t' r e) = absurd (n (Command.precompiles steps name r))
+one_ending files words p l q m s t (run steps script p' l' s' r e) c =
+    one_script_end files script steps p' l' q m s' t e (script_ends files words steps script q m t r c)
+one_ending files words p l q m s t (precompile steps name p' l' s' r e) c =
+    one_package_end files name steps p' l' q m s' t e (package_ends files words steps name q m t r c)

@@ -1,11 +1,18 @@
 -- What the top call promises, over depots that tell their files and sinks that tell what was put.
-use Rattle.std.specs.Prelude.{◌≡◌, ℕ, ◌≤◌, ◌⊎◌, List, [], ◌++◌, take, Option, Some}
+use Rattle.std.specs.Prelude.{◌≡◌, ℕ, ◌≤◌, ◌⊎◌, List, ◌++◌, take, Option, Some, None}
 use Rattle.std.specs.Option.{IfSome}
 use Rattle.pj_meaning.specs.Tree.{Text}
-use Rattle.pj_outside.specs.Stored.{Files}
+use Rattle.pj_meaning.specs.Content.{Content}
+use Rattle.pj_meaning.specs.Outcome.{Outcome, Gives, Raises, Stops}
+use Rattle.pj_meaning.specs.State.{State}
+use Rattle.pj_meaning.specs.Using.{Image, Holds, image_file}
+use Rattle.pj_content.specs.Readings.{reading_of}
+use Rattle.pj_tree.specs.declared.item.PackageTree.{PackageTree}
+use Rattle.pj_text.specs.Texts.{IsPackage}
+use Rattle.pj_outside.specs.Stored.{Files, Keeps, KeepsRest, Stores}
 use Rattle.pj_outside.specs.Faults.{Rose}
-use Rattle.pj_top.specs.Commands.{IsRun}
-use Rattle.pj_top.specs.Endings.{CommandEnds, ScriptEnds, depot_line, usage_line}
+use Rattle.pj_top.specs.Commands.{Command, IsPrecompile, IsRun}
+use Rattle.pj_top.specs.Endings.{CommandEnds, building, depot_line, text_file, usage_line}
 use Rattle.pj_top.specs.declared.status.Status.{Status}
 use Rattle.pj_top.specs.declared.status.Status.TheVariants as ends
 
@@ -46,19 +53,33 @@ pub record FaultCause (kind : Status) (before now : ℕ) (status : Status) : Typ
   pub later : before ≤ now
   pub failed : status ≡ kind → Rose before now
 
--- After a depot's fault the words are a run, nothing was printed, and the line tells the file.
-pub record TellsFault (words : List Text) (old : Text) (now : Option Text) : Type 0 where
-  pub steps : ℕ
-  pub script : Text
-  pub words_run : IsRun words steps script
-  pub added : Adds old (depot_line script) now
+-- the files that a command reads or writes
+pub data Touches (words : List Text) : Text → Type 0 where
+  reads_script : (steps : ℕ) (script : Text) → IsRun words steps script → Touches words script
+  reads_image : (steps : ℕ) (script name : Text) → IsRun words steps script → Touches words (image_file name)
+  reads_text : (steps : ℕ) (name : Text) → IsPrecompile words steps name → Touches words (text_file name)
+  writes_image : (steps : ℕ) (name : Text) → IsPrecompile words steps name → Touches words (image_file name)
+
+-- the text is a front of what the command prints, whatever the files are that are told
+abbrev pub IsPrintedFront : List Text → Option Files → Text → Type 0
+IsPrintedFront words files text =
+    (told : Files) (printed line : Text) (end : Status) → files ≡ Some told → CommandEnds told words printed line end → (n : ℕ) × (text ≡ take n printed)
+
+-- After a depot's fault at a file of the command, a front of what the command prints was put, and then the line that tells the file.
+pub record TellsFault (words : List Text) (files : Option Files) (old : Text) (now : Option Text) : Type 0 where
+  pub file : Text
+  pub text : Text
+  pub touched : Touches words file
+  pub front : IsPrintedFront words files text
+  pub added : Adds old (text ++ depot_line file) now
 
 -- a sink's fault at the line that tells of a depot's fault
-pub record CutsFault (words : List Text) (old : Text) (now : Option Text) : Type 0 where
-  pub steps : ℕ
-  pub script : Text
-  pub words_run : IsRun words steps script
-  pub added : AddsFront old (depot_line script) now
+pub record CutsFault (words : List Text) (files : Option Files) (old : Text) (now : Option Text) : Type 0 where
+  pub file : Text
+  pub text : Text
+  pub touched : Touches words file
+  pub front : IsPrintedFront words files text
+  pub added : AddsFront old (text ++ depot_line file) now
 
 -- Whatever fails, what was put is a front of what the command puts: of its printed text alone after want of memory, and
 -- of this and its line after a sink's fault, unless the depot had failed before.
@@ -66,29 +87,50 @@ pub record Begins (words : List Text) (files : Option Files) (before now : Optio
   pub memory : (told : Files) (old printed line : Text) (end : Status) → files ≡ Some told → before ≡ Some old → status ≡ ends.NoMemory
       → CommandEnds told words printed line end → AddsFront old printed now
   pub sink : (told : Files) (old printed line : Text) (end : Status) → files ≡ Some told → before ≡ Some old → status ≡ ends.SinkFailed
-      → CommandEnds told words printed line end → AddsFront old (printed ++ line) now ⊎ (Rose depot_before depot_now × CutsFault words old now)
-  pub depot : (old : Text) → before ≡ Some old → status ≡ ends.DepotFailed → TellsFault words old now
+      → CommandEnds told words printed line end → AddsFront old (printed ++ line) now ⊎ (Rose depot_before depot_now × CutsFault words files old now)
+  pub depot : (old : Text) → before ≡ Some old → status ≡ ends.DepotFailed → TellsFault words files old now
 
 -- Words that are no command are told so, exactly then, whatever the depot tells: the usage line is put, unless the sink
 -- fails at it.
 pub record TellsUsage (words : List Text) (before now : Option Text) (status : Status) : Type 0 where
-  pub exactly : status ≡ ends.Usage → (steps : ℕ) (script : Text) → IsRun words steps script → ⊥
-  pub always : ((steps : ℕ) (script : Text) → IsRun words steps script → ⊥)
+  pub exactly : status ≡ ends.Usage → Command words → ⊥
+  pub always : (Command words → ⊥)
       → ((status ≡ ends.Usage) × IfSome before (λ old. Adds old usage_line now)) ⊎ ((status ≡ ends.SinkFailed) × IfSome before (λ old. AddsFront old usage_line now))
 
--- the statuses that are built: no other is answered, whatever the depot and the sink tell
-abbrev pub IsBuilt : Status → Type 0
-IsBuilt ends.Ok = Unit {0}
-IsBuilt ends.Error = ⊥
-IsBuilt ends.Usage = Unit {0}
-IsBuilt ends.Syntax = Unit {0}
-IsBuilt ends.Refused = ⊥
-IsBuilt ends.Missing = Unit {0}
-IsBuilt ends.Steps = Unit {0}
-IsBuilt ends.DepotFailed = Unit {0}
-IsBuilt ends.SinkFailed = Unit {0}
-IsBuilt ends.NoMemory = Unit {0}
-IsBuilt ends.Trap = ⊥
-IsBuilt ends.TooLong = Unit {0}
-IsBuilt ends.Cycle = ⊥
-IsBuilt ends.Full = ⊥
+-- ---- what a command leaves in the files
+
+-- The bytes are an image of this name that holds what building gives, of which no entry is refused, whatever is loaded before it.
+pub record HoldsContent (name bytes : Text) (content : Content) : Type 0 where
+  pub image : Image
+  pub read : reading_of name (Some bytes) ≡ Holds image
+  pub holds : (s : State) → image.content s ≡ content
+  pub fits : (s : State) → image.misfit s ≡ None
+
+abbrev pub IsBuilt : Text → Text → Outcome Content → Type 0
+IsBuilt name bytes (Gives content r) = HoldsContent name bytes content
+IsBuilt name bytes (Raises e r) = ⊥
+IsBuilt name bytes (Stops r) = ⊥
+
+-- the image was written, and holds what building the package of the text gives
+pub record WritesImage (files : Files) (name : Text) (steps : ℕ) (now : Option Files) : Type 0 where
+  pub image : Text
+  pub stores : Stores files (image_file name) image now
+  pub holds : (bytes : Text) (tree : PackageTree) → files (text_file name) ≡ Some bytes → IsPackage name bytes tree → IsBuilt name image (building tree steps)
+
+-- No file but the package's image is changed. It is written where the package was built, and is as it was before, unless the depot
+-- or the sink failed or there was no memory.
+pub record Precompiles (files : Files) (name : Text) (steps : ℕ) (now : Option Files) (status : Status) : Type 0 where
+  pub rest : KeepsRest (image_file name) files now
+  pub written : status ≡ ends.Ok → WritesImage files name steps now
+  pub kept : (status ≡ ends.Ok → ⊥) → (status ≡ ends.DepotFailed → ⊥) → (status ≡ ends.SinkFailed → ⊥) → (status ≡ ends.NoMemory → ⊥) → Keeps files now
+
+-- only the building of a package changes a file
+pub record Leaves (words : List Text) (files : Files) (now : Option Files) (status : Status) : Type 0 where
+  pub builds : (steps : ℕ) (name : Text) → IsPrecompile words steps name → Precompiles files name steps now status
+  pub others : ((steps : ℕ) (name : Text) → IsPrecompile words steps name → ⊥) → Keeps files now
+
+-- the statuses that there are today: no other is answered, whatever the depot and the sink tell
+abbrev pub IsToday : Status → Type 0
+IsToday ends.Trap = ⊥
+IsToday ends.Cycle = ⊥
+IsToday status = Unit {0}

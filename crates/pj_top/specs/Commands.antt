@@ -3,6 +3,7 @@ use Rattle.std.specs.Prelude.{◌≡◌, ℕ, ◌^◌, ◌<◌, Bool, true, fals
 use Rattle.std.specs.List.{list_all}
 use Rattle.std.specs.Fmt.{decimal}
 use Rattle.pj_meaning.specs.Tree.{Text}
+use Rattle.pj_words.specs.Words.{is_package_name}
 
 -- an ASCII letter or digit, `_`, `-` or `.`
 abbrev pub is_file_byte : ℕ → Bool
@@ -25,3 +26,14 @@ pub record IsRun (words : List Text) (steps : ℕ) (script : Text) : Type 0 wher
   pub spelled : words ≡ codes "run" ∷ decimal steps ∷ script ∷ []
   pub few : steps < 2 ^ 63
   pub named : is_file_name script ≡ true
+
+-- `precompile STEPS NAME`: such a number, and a package's name
+pub record IsPrecompile (words : List Text) (steps : ℕ) (name : Text) : Type 0 where
+  pub spelled : words ≡ codes "precompile" ∷ decimal steps ∷ name ∷ []
+  pub few : steps < 2 ^ 63
+  pub named : is_package_name name ≡ true
+
+-- the words that are a command
+pub data Command (words : List Text) : Type 0 where
+  runs : (steps : ℕ) (script : Text) → IsRun words steps script → Command words
+  precompiles : (steps : ℕ) (name : Text) → IsPrecompile words steps name → Command words

@@ -1,20 +1,26 @@
 -- How a command ends: what is printed, the line of its status, and the status.
 use Rattle.std.specs.Fmt.{decimal}
-use Rattle.std.specs.Prelude.{◌≡◌, ℕ, ◌<◌, ◌≤◌, true, false, List, [], ◌++◌, length, codes, Option, Some, None}
+use Rattle.std.specs.Prelude.{◌≡◌, ℕ, ◌<◌, ◌≤◌, true, false, List, [], ◌++◌, length, codes, Some, None}
 use Rattle.pj_meaning.specs.Tree.{Text, TopItem}
+use Rattle.pj_meaning.specs.Content.{Content}
+use Rattle.pj_meaning.specs.Outcome.{Outcome, Gives, Raises, Stops}
+use Rattle.pj_meaning.specs.Packages.{pack}
+use Rattle.pj_meaning.specs.Printing.{error_line}
 use Rattle.pj_meaning.specs.Script.{Refusal, Format, IsLoaded, Dependency, Relocation, Full, Ending, AtEnd, Uncaught, OutOfSteps, Absent, TooLong, Refused, Ended, run_script}
-use Rattle.pj_meaning.specs.Using.{use_from, Reading, NoFile}
+use Rattle.pj_meaning.specs.Using.{use_from}
 use Rattle.pj_meaning.specs.Endings.{ending_line}
 use Rattle.pj_outside.specs.Stored.{Files}
 use Rattle.pj_lex.specs.declared.fault.SyntaxKind.{SyntaxKind}
 use Rattle.pj_lex.specs.declared.fault.SyntaxKind.TheVariants as faults
+use Rattle.pj_tree.specs.declared.item.PackageTree.{PackageTree}
 use Rattle.pj_tree.specs.declared.item.ScriptTree.{ScriptTree}
-use Rattle.pj_plain.specs.Held.{held_script}
-use Rattle.pj_plain.specs.Plain.{plain_items}
-use Rattle.pj_text.specs.Texts.{IsScript, IsScriptFault}
+use Rattle.pj_content.specs.Readings.{readings}
+use Rattle.pj_plain.specs.Forms.{package_form, script_form}
+use Rattle.pj_plain.specs.Held.{held_package, held_script}
+use Rattle.pj_text.specs.Texts.{IsPackage, IsPackageFault, IsScript, IsScriptFault}
 use Rattle.pj_top.specs.declared.position.Position.{Position}
 use Rattle.pj_top.specs.Positions.{position_of}
-use Rattle.pj_top.specs.Commands.{IsRun}
+use Rattle.pj_top.specs.Commands.{Command, IsPrecompile, IsRun}
 use Rattle.pj_top.specs.declared.status.Status.{Status}
 use Rattle.pj_top.specs.declared.status.Status.TheVariants as ends
 
@@ -57,7 +63,7 @@ told_at p kind = codes " " ++ (decimal p.line ++ (codes ":" ++ (decimal p.column
 abbrev pub syntax_line : Text → Position → SyntaxKind → Text
 syntax_line file p kind = file_line (codes "syntax ") file (told_at p kind)
 
--- a script of another form is told at its first place
+-- a text of another form is told at its first place
 abbrev pub unbuilt_line : Text → Text
 unbuilt_line file = file_line (codes "syntax ") file (codes " 1:1 Unbuilt\n")
 
@@ -80,34 +86,74 @@ status_of (Absent file) = ends.Missing
 status_of (TooLong file) = ends.TooLong
 status_of (Refused file why) = refused_status why
 
--- no image is read yet, and no text of the form that is built uses one
-abbrev pub no_images : Text → Reading
-no_images name = NoFile
+-- ---- a run
 
--- what the script means: direct evaluation of its items, with this budget
-abbrev pub meaning : List TopItem → ℕ → Ended
-meaning items steps = run_script (use_from no_images) items steps
+-- what the script means: direct evaluation of its items, with this budget, over the images in these files
+abbrev pub meaning : Files → List TopItem → ℕ → Ended
+meaning files items steps = run_script (use_from (readings files)) items steps
 
-abbrev pub printed_of : List TopItem → ℕ → Text
-printed_of items steps = (meaning items steps).last.state.printed
+abbrev pub printed_of : Files → List TopItem → ℕ → Text
+printed_of files items steps = (meaning files items steps).last.state.printed
 
-abbrev pub ending_of : List TopItem → ℕ → Ending
-ending_of items steps = (meaning items steps).ending
+abbrev pub ending_of : Files → List TopItem → ℕ → Ending
+ending_of files items steps = (meaning files items steps).ending
 
--- A run of the script in this file, whose name and content are given: it isn't there, it is too long, its text is no script, it is
--- a script of another form than runs today, or it is run. Then come the printed text, the line of the status, and the status.
-pub data ScriptEnds (name : Text) (file : Option Text) (steps : ℕ) : Text → Text → Status → Type 0 where
-  absent : file ≡ None → ScriptEnds name file steps [] (missing_line name) ends.Missing
-  long : (bytes : Text) → file ≡ Some bytes → text_limit < length bytes → ScriptEnds name file steps [] (too_long_line name) ends.TooLong
-  faulty : (bytes : Text) (place : ℕ) (kind : SyntaxKind) → file ≡ Some bytes → length bytes ≤ text_limit → IsScriptFault bytes place kind
-      → ScriptEnds name file steps [] (syntax_line name (position_of bytes place) kind) ends.Syntax
-  unbuilt : (bytes : Text) (tree : ScriptTree) → file ≡ Some bytes → length bytes ≤ text_limit → IsScript bytes tree → plain_items [] (held_script tree) ≡ false
-      → ScriptEnds name file steps [] (unbuilt_line name) ends.Syntax
-  runs : (bytes : Text) (tree : ScriptTree) → file ≡ Some bytes → length bytes ≤ text_limit → IsScript bytes tree → plain_items [] (held_script tree) ≡ true
-      → ScriptEnds name file steps (printed_of (held_script tree) steps) (ending_line (ending_of (held_script tree) steps)) (status_of (ending_of (held_script tree) steps))
+-- A run of the script in the file of this name: it isn't there, it is too long, its text is no script, it is a script of another
+-- form than runs today, or it is run. Then come the printed text, the line of the status, and the status.
+pub data ScriptEnds (files : Files) (name : Text) (steps : ℕ) : Text → Text → Status → Type 0 where
+  absent : files name ≡ None → ScriptEnds files name steps [] (missing_line name) ends.Missing
+  long : (bytes : Text) → files name ≡ Some bytes → text_limit < length bytes → ScriptEnds files name steps [] (too_long_line name) ends.TooLong
+  faulty : (bytes : Text) (place : ℕ) (kind : SyntaxKind) → files name ≡ Some bytes → length bytes ≤ text_limit → IsScriptFault bytes place kind
+      → ScriptEnds files name steps [] (syntax_line name (position_of bytes place) kind) ends.Syntax
+  unbuilt : (bytes : Text) (tree : ScriptTree) → files name ≡ Some bytes → length bytes ≤ text_limit → IsScript bytes tree → script_form (held_script tree) ≡ false
+      → ScriptEnds files name steps [] (unbuilt_line name) ends.Syntax
+  runs : (bytes : Text) (tree : ScriptTree) → files name ≡ Some bytes → length bytes ≤ text_limit → IsScript bytes tree → script_form (held_script tree) ≡ true
+      → ScriptEnds files name steps (printed_of files (held_script tree) steps) (ending_line (ending_of files (held_script tree) steps)) (status_of (ending_of files (held_script tree) steps))
 
--- a command over these files: words that are none, or the run of a script
+-- ---- the building of a package
+
+-- the file of a package's text
+abbrev pub text_file : Text → Text
+text_file name = name ++ codes ".jl"
+
+-- what building a package gives: direct evaluation of its statements, with this budget
+abbrev pub building : PackageTree → ℕ → Outcome Content
+building tree steps = pack (held_package tree) [] steps
+
+abbrev pub built_printed : Outcome Content → Text
+built_printed (Gives content r) = r.state.printed
+built_printed (Raises e r) = r.state.printed
+built_printed (Stops r) = r.state.printed
+
+abbrev pub built_line : Outcome Content → Text
+built_line (Gives content r) = []
+built_line (Raises e r) = error_line e
+built_line (Stops r) = codes "steps\n"
+
+abbrev pub built_status : Outcome Content → Status
+built_status (Gives content r) = ends.Ok
+built_status (Raises e r) = ends.Error
+built_status (Stops r) = ends.Steps
+
+-- The building of the package of this name: its text isn't there, it is too long, it is no text of this package, it is of another
+-- form than is built today, or its statements are evaluated. Then come the printed text, the line of the status, and the status.
+pub data PackageEnds (files : Files) (name : Text) (steps : ℕ) : Text → Text → Status → Type 0 where
+  absent : files (text_file name) ≡ None → PackageEnds files name steps [] (missing_line (text_file name)) ends.Missing
+  long : (bytes : Text) → files (text_file name) ≡ Some bytes → text_limit < length bytes
+      → PackageEnds files name steps [] (too_long_line (text_file name)) ends.TooLong
+  faulty : (bytes : Text) (place : ℕ) (kind : SyntaxKind) → files (text_file name) ≡ Some bytes → length bytes ≤ text_limit → IsPackageFault name bytes place kind
+      → PackageEnds files name steps [] (syntax_line (text_file name) (position_of bytes place) kind) ends.Syntax
+  unbuilt : (bytes : Text) (tree : PackageTree) → files (text_file name) ≡ Some bytes → length bytes ≤ text_limit → IsPackage name bytes tree
+      → package_form (held_package tree) ≡ false → PackageEnds files name steps [] (unbuilt_line (text_file name)) ends.Syntax
+  builds : (bytes : Text) (tree : PackageTree) → files (text_file name) ≡ Some bytes → length bytes ≤ text_limit → IsPackage name bytes tree
+      → package_form (held_package tree) ≡ true → PackageEnds files name steps (built_printed (building tree steps)) (built_line (building tree steps)) (built_status (building tree steps))
+
+-- ---- commands
+
+-- a command over these files: words that are none, the run of a script, or the building of a package
 pub data CommandEnds (files : Files) (words : List Text) : Text → Text → Status → Type 0 where
-  no_command : ((steps : ℕ) (script : Text) → IsRun words steps script → ⊥) → CommandEnds files words [] usage_line ends.Usage
-  run : (steps : ℕ) (script printed line : Text) (status : Status) → IsRun words steps script → ScriptEnds script (files script) steps printed line status
+  no_command : (Command words → ⊥) → CommandEnds files words [] usage_line ends.Usage
+  run : (steps : ℕ) (script printed line : Text) (status : Status) → IsRun words steps script → ScriptEnds files script steps printed line status
+      → CommandEnds files words printed line status
+  precompile : (steps : ℕ) (name printed line : Text) (status : Status) → IsPrecompile words steps name → PackageEnds files name steps printed line status
       → CommandEnds files words printed line status

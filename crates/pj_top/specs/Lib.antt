@@ -1,8 +1,9 @@
 pub mod Positions
-pub mod Plain
 pub mod Statuses
 pub mod Commands
-pub mod Counting
+pub mod Words
 pub mod Endings
 pub mod Claims
 pub mod Stops
+pub mod Building
+pub mod Running

@@ -1,133 +1,124 @@
--- How the inner calls stop, and what they have put by then.
-use Rattle.std.specs.Prelude.{◌≡◌, ◌⊎◌, ℕ, ◌≤◌, Bool, true, false, List, [], codes, Option, Result}
-use Rattle.std.specs.declared.result.Result.TheVariants.{Ok, Err}
+-- How the inner calls end and stop, and what they have put by then.
+use Rattle.std.specs.Prelude.{◌≡◌, ◌⊎◌, ℕ, ◌≤◌, ⊤, [], Option, Result, Ok, Err, take}
 use Rattle.pj_meaning.specs.Tree.{Text}
+use Rattle.pj_meaning.specs.Using.{image_file}
 use Rattle.pj_outside.specs.Faults.{Rose}
-use Rattle.pj_plain.specs.declared.tree.Item.{Item}
-use Rattle.pj_plain.specs.declared.tree.Definition.{Definition}
-use Rattle.pj_tree.specs.declared.item.ScriptTree.{ScriptTree}
-use Rattle.pj_meaning.specs.Script.{AtEnd, OutOfSteps}
-use Rattle.pj_plain.specs.Held.{held_script}
-use Rattle.pj_plain.specs.Plain.{plain_items}
-use Rattle.pj_top.specs.Endings.{ending_of, printed_of, ScriptEnds, missing_line, too_long_line, syntax_line, unbuilt_line, depot_line}
+use Rattle.pj_outside.specs.Stored.{Files, Keeps, KeepsRest}
+use Rattle.pj_top.specs.Claims.{Adds, AddsFront, WritesImage}
+use Rattle.pj_top.specs.Endings.{depot_line, text_file}
 use Rattle.pj_top.specs.declared.status.Status.{Status}
 use Rattle.pj_top.specs.declared.status.Status.TheVariants as ends
-use Rattle.pj_top.specs.Plain.{Performed, Printed}
-use Rattle.pj_top.specs.Claims.{Adds, AddsFront}
 use Rattle.pj_top.specs.declared.stop.Stop.{Stop}
 use Rattle.pj_top.specs.declared.stop.Stop.TheVariants as stop
 use Rattle.pj_top.specs.declared.stop.Ending.{Ending}
-use Rattle.pj_top.specs.declared.stop.Ending.TheVariants as ending
 
--- this holds where the sink failed
+-- How a command ends: what it prints, the line of its status, and the status.
+abbrev pub Ends : Type 1
+Ends = Text → Text → Status → Type 0
+
+-- ---- faults of the sink and of the depot
+
 abbrev pub IfSinkFailed : {T : Type 0} → Result T Stop → Type 0 → Type 0
-IfSinkFailed (Ok _) P = Unit {0}
+IfSinkFailed (Ok _) P = ⊤
 IfSinkFailed (Err stop.SinkFailed) P = P
-IfSinkFailed (Err stop.NoMemory) P = Unit {0}
+IfSinkFailed (Err (stop.DepotFailed file)) P = ⊤
+IfSinkFailed (Err stop.NoMemory) P = ⊤
 
 -- the sink's count doesn't fall, and it rose where the sink is said to have failed
 pub record SinkCause {T : Type 0} (before now : ℕ) (result : Result T Stop) : Type 0 where
   pub later : before ≤ now
   pub failed : IfSinkFailed result (Rose before now)
 
--- a text that is put whole, or a front of it where the call stopped
-abbrev pub PutsText : {T : Type 0} → Text → Text → Result T Stop → Option Text → Type 0
-PutsText old text (Ok _) now = Adds old text now
-PutsText old text (Err _) now = AddsFront old text now
+abbrev pub IfDepotFailed : {T : Type 0} → Result T Stop → (Text → Type 0) → Type 0
+IfDepotFailed (Ok _) P = ⊤
+IfDepotFailed (Err stop.SinkFailed) P = ⊤
+IfDepotFailed (Err (stop.DepotFailed file)) P = P file
+IfDepotFailed (Err stop.NoMemory) P = ⊤
 
--- the line went on as the evaluator says
-abbrev pub GoesOn : Performed → Result Bool Stop → List Definition → ℕ → Type 0
-GoesOn p (Ok true) defs left = (p.enough ≡ true) × (defs ≡ p.definitions) × (left ≡ p.left)
-GoesOn p (Ok false) defs left = p.enough ≡ false
-GoesOn p (Err _) defs left = Unit {0}
-
--- the whole text was evaluated as the evaluator says, and ended at its end or for want of steps
-abbrev pub EndsAs : Printed → Result Ending Stop → Type 0
-EndsAs p (Ok ending.AtEnd) = p.enough ≡ true
-EndsAs p (Ok ending.Steps) = p.enough ≡ false
-EndsAs p (Ok ending.Missing) = ⊥
-EndsAs p (Ok ending.TooLong) = ⊥
-EndsAs p (Ok (ending.Faulty m)) = ⊥
-EndsAs p (Ok ending.Unbuilt) = ⊥
-EndsAs p (Ok ending.DepotFailed) = ⊥
-EndsAs p (Err _) = Unit {0}
-
--- the status of an ending
-abbrev pub ending_status : Ending → Status
-ending_status ending.AtEnd = ends.Ok
-ending_status ending.Steps = ends.Steps
-ending_status ending.Missing = ends.Missing
-ending_status ending.TooLong = ends.TooLong
-ending_status (ending.Faulty m) = ends.Syntax
-ending_status ending.Unbuilt = ends.Syntax
-ending_status ending.DepotFailed = ends.DepotFailed
-
--- the line of an ending
-abbrev pub status_line : Text → Ending → Text
-status_line name ending.AtEnd = []
-status_line name ending.Steps = codes "steps\n"
-status_line name ending.Missing = missing_line name
-status_line name ending.TooLong = too_long_line name
-status_line name (ending.Faulty m) = syntax_line name m.at m.kind
-status_line name ending.Unbuilt = unbuilt_line name
-status_line name ending.DepotFailed = depot_line name
-
--- What the run of a script leaves: after a depot's fault nothing was put; where it is stopped a front of the printed
--- text was put; and else the printed text, with the line and the status of its ending.
-abbrev pub RunsTo : Text → Option Text → ℕ → Text → Result Ending Stop → Option Text → Type 0
-RunsTo name file steps old (Ok ending.DepotFailed) now = Adds old [] now
-RunsTo name file steps old (Ok e) now =
-    (printed : Text) × Adds old printed now × ScriptEnds name file steps printed (status_line name e) (ending_status e)
-RunsTo name file steps old (Err _) now =
-    (printed line : Text) (status : Status) → ScriptEnds name file steps printed line status → AddsFront old printed now
-
--- the ending of a run that wasn't stopped is that of the script in this file, whatever the sink tells
-abbrev pub Reaches : Text → Option Text → ℕ → Result Ending Stop → Type 0
-Reaches name file steps (Ok ending.DepotFailed) = Unit {0}
-Reaches name file steps (Ok e) = (printed : Text) × ScriptEnds name file steps printed (status_line name e) (ending_status e)
-Reaches name file steps (Err _) = Unit {0}
-
--- What the run of a tree leaves: where it is of the form that runs, what its direct evaluation prints and how that ends; and where it
--- isn't, nothing was put.
-pub data TreeEnds (tree : ScriptTree) (steps : ℕ) : Text → Ending → Type 0 where
-  not_plain : plain_items [] (held_script tree) ≡ false → TreeEnds tree steps [] ending.Unbuilt
-  plain_end : plain_items [] (held_script tree) ≡ true → ending_of (held_script tree) steps ≡ AtEnd → TreeEnds tree steps (printed_of (held_script tree) steps) ending.AtEnd
-  plain_stop : plain_items [] (held_script tree) ≡ true → ending_of (held_script tree) steps ≡ OutOfSteps → TreeEnds tree steps (printed_of (held_script tree) steps) ending.Steps
-
--- what a run that is stopped puts a front of
-abbrev pub tree_prints : Bool → Text → Text
-tree_prints true printed = printed
-tree_prints false printed = []
-
-abbrev pub RunsTree : ScriptTree → ℕ → Text → Result Ending Stop → Option Text → Type 0
-RunsTree tree steps old (Ok e) now = (printed : Text) × Adds old printed now × TreeEnds tree steps printed e
-RunsTree tree steps old (Err _) now = AddsFront old (tree_prints (plain_items [] (held_script tree)) (printed_of (held_script tree) steps)) now
-
-abbrev pub ReachesTree : ScriptTree → ℕ → Result Ending Stop → Type 0
-ReachesTree tree steps (Ok e) = (printed : Text) × TreeEnds tree steps printed e
-ReachesTree tree steps (Err _) = Unit {0}
-
--- this holds where the depot failed
-abbrev pub IfDepotFailed : Result Ending Stop → Type 0 → Type 0
-IfDepotFailed (Ok ending.DepotFailed) P = P
-IfDepotFailed (Ok _) P = Unit {0}
-IfDepotFailed (Err _) P = Unit {0}
-
--- after a depot's fault nothing was put, whatever the depot tells
-abbrev pub IfDepotFailedAdds : Result Ending Stop → Text → Option Text → Type 0
-IfDepotFailedAdds r old now = IfDepotFailed r (Adds old [] now)
-
--- the depot's count doesn't fall, and it rose where the depot is said to have failed
-pub record DepotCause (before now : ℕ) (result : Result Ending Stop) : Type 0 where
+-- the depot's count doesn't fall, and it rose where the depot is said to have failed, at such a file
+pub record DepotCause {T : Type 0} (Is : Text → Type 0) (before now : ℕ) (result : Result T Stop) : Type 0 where
   pub later : before ≤ now
-  pub failed : IfDepotFailed result (Rose before now)
+  pub failed : IfDepotFailed result (λ file. Rose before now × Is file)
+
+-- the script, or the image of a package
+abbrev pub IsRead : Text → Text → Type 0
+IsRead script file = (file ≡ script) ⊎ ((name : Text) × (file ≡ image_file name))
+
+-- the text of a package, or its image
+abbrev pub IsOfPackage : Text → Text → Type 0
+IsOfPackage name file = (file ≡ text_file name) ⊎ (file ≡ image_file name)
+
+-- ---- what was put
+
+-- What a command's inner call leaves: its printed text, with the line and the status of its ending, which are still to be told. Where
+-- it is stopped, a front of what it would print was put.
+abbrev pub Leads : Ends → Text → Result Ending Stop → Option Text → Type 0
+Leads E old (Ok e) now = (printed : Text) × Adds old printed now × E printed e.line e.status
+Leads E old (Err why) now = (text : Text) × Adds old text now × ((printed line : Text) (status : Status) → E printed line status → (n : ℕ) × (text ≡ take n printed))
+
+-- the ending of a call that wasn't stopped, whatever the sink tells
+abbrev pub Reaches : Ends → Result Ending Stop → Type 0
+Reaches E (Ok e) = (printed : Text) × E printed e.line e.status
+Reaches E (Err why) = ⊤
+
+-- something was put behind what was put before, whatever the depot tells
+abbrev pub AddsSome : Text → Option Text → Type 0
+AddsSome old now = (text : Text) × Adds old text now
+
+-- the statuses with which an inner call ends that isn't stopped
+abbrev pub IsEnding : Status → Type 0
+IsEnding ends.Ok = ⊤
+IsEnding ends.Error = ⊤
+IsEnding ends.Usage = ⊥
+IsEnding ends.Syntax = ⊤
+IsEnding ends.Refused = ⊤
+IsEnding ends.Missing = ⊤
+IsEnding ends.Steps = ⊤
+IsEnding ends.DepotFailed = ⊥
+IsEnding ends.SinkFailed = ⊥
+IsEnding ends.NoMemory = ⊥
+IsEnding ends.Trap = ⊥
+IsEnding ends.TooLong = ⊤
+IsEnding ends.Cycle = ⊥
+IsEnding ends.Full = ⊤
+
+-- ---- what was written
+
+-- The image is written where the building ended well, and only then; a fault of the depot leaves no more than it unknown.
+abbrev pub Builds : Files → Text → ℕ → Result Ending Stop → Option Files → Type 0
+Builds files name steps (Ok e) now =
+    KeepsRest (image_file name) files now × ((e.status ≡ ends.Ok → WritesImage files name steps now) × ((e.status ≡ ends.Ok → ⊥) → Keeps files now))
+Builds files name steps (Err why) now = KeepsRest (image_file name) files now
 
 -- the line stands and the status is answered, or the sink failed and a front of the line stands
 abbrev pub Finishes : Text → Text → Status → Status → Option Text → Type 0
 Finishes old line status answered now =
     ((answered ≡ status) × Adds old line now) ⊎ ((answered ≡ ends.SinkFailed) × AddsFront old line now)
 
--- the line of an ending was put, with its status, or the sink failed at it, or it found no memory and nothing was put
-abbrev pub Concludes : Text → Text → Ending → Status → Option Text → Type 0
-Concludes old name e answered now =
-    Finishes old (status_line name e) (ending_status e) answered now ⊎ ((answered ≡ ends.NoMemory) × Adds old [] now)
+-- ---- what is told at the end
+
+-- the line that tells of the depot's fault is put, where there is memory for it
+abbrev pub TellsDepot : Text → Text → Status → Option Text → Type 0
+TellsDepot old file answered now =
+    Finishes old (depot_line file) ends.DepotFailed answered now ⊎ ((answered ≡ ends.NoMemory) × Adds old [] now)
+
+-- What is put behind what an inner call left, and the status that is answered.
+abbrev pub Concludes : Text → Result Ending Stop → Status → Option Text → Type 0
+Concludes old (Ok e) answered now = Finishes old e.line e.status answered now
+Concludes old (Err stop.SinkFailed) answered now = (answered ≡ ends.SinkFailed) × Adds old [] now
+Concludes old (Err (stop.DepotFailed file)) answered now = TellsDepot old file answered now
+Concludes old (Err stop.NoMemory) answered now = (answered ≡ ends.NoMemory) × Adds old [] now
+
+-- the status that is answered, whatever the sink tells
+abbrev pub Answers : Result Ending Stop → Status → Type 0
+Answers (Ok e) answered = (answered ≡ e.status) ⊎ (answered ≡ ends.SinkFailed)
+Answers (Err stop.SinkFailed) answered = answered ≡ ends.SinkFailed
+Answers (Err (stop.DepotFailed file)) answered = (answered ≡ ends.DepotFailed) ⊎ ((answered ≡ ends.SinkFailed) ⊎ (answered ≡ ends.NoMemory))
+Answers (Err stop.NoMemory) answered = answered ≡ ends.NoMemory
+
+-- the sink failed before the end was told
+abbrev pub CameCut : Result Ending Stop → Type 0
+CameCut (Ok _) = ⊥
+CameCut (Err stop.SinkFailed) = ⊤
+CameCut (Err (stop.DepotFailed file)) = ⊥
+CameCut (Err stop.NoMemory) = ⊥

@@ -1,10 +1,12 @@
 //! The top call: all that the program does, from the words of its command line to its status.
 #![tactic(auto)]
 
+mod ending;
 mod lines;
-mod number;
 pub mod position;
-mod session;
+mod precompile;
+mod putting;
+mod run;
 mod status;
 mod stop;
 mod top;

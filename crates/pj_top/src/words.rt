@@ -1,8 +1,11 @@
-ghost use Rattle.std.specs.Prelude.{◌≡◌, ℕ, ◌^◌, ◌<◌, MatchOption, map, string_bytes};
-ghost use Rattle.pj_meaning.specs.Tree.{Text};
+ghost use Rattle.std.specs.Prelude.{◌≡◌, ℕ, ◌^◌, ◌<◌, [], ◌∷◌, MatchOption, map, string_bytes};
 ghost use Rattle.std.specs.List.{list_all};
 ghost use Rattle.std.specs.Fmt.{decimal};
-ghost use Rattle.pj_top.specs.Commands.{is_file_byte, is_file_name, starts_number, IsRun};
+ghost use Rattle.pj_top.specs.Commands.{is_file_byte, is_file_name, starts_number};
+ghost use Rattle.pj_top.specs.Commands.{Command as Asked};
+ghost use Rattle.pj_top.specs.Words.{IsAsked};
+
+use pj_words::is_package_name;
 
 /// Whether a byte may stand in a file's name.
 fn is_file_byte(byte: u8) -> bool
@@ -53,17 +56,35 @@ fn step_count(word: &str) -> Option<u64>
     }
 }
 
-/// The number of steps and the script's name, where the words are `run STEPS SCRIPT`.
-pub fn run_words(words: &[String]) -> Option<(u64, &str)>
-    ensures { MatchOption result ((steps : ℕ) (script : Text) → IsRun (map string_bytes words.now) steps script → ⊥) (λ found. IsRun (map string_bytes words.now) found.0 found.1.now) }
+/// A command, with its number of steps.
+#[derive(Clone, Copy, Debug)]
+pub enum Command<'a> {
+    Run { steps: u64, script: &'a str },
+    Precompile { steps: u64, name: &'a str },
+}
+
+/// The command that three words are, of which the second spells this number of steps, if they are one.
+fn command_of<'a>(word: &str, steps: u64, name: &'a str) -> Option<Command<'a>>
+    requires { steps < 2 ^ 63 }
+    ensures { MatchOption result (Asked (word.now ∷ decimal steps ∷ name.now ∷ []) → ⊥) (IsAsked (word.now ∷ decimal steps ∷ name.now ∷ [])) }
+{
+    match word {
+        "run" if is_file_name(name) => Some(Command::Run {
+            steps,
+            script: name,
+        }),
+        "precompile" if is_package_name(name) => Some(Command::Precompile { steps, name }),
+        _ => None,
+    }
+}
+
+/// The command that the words are, if they are one: `run STEPS SCRIPT` or `precompile STEPS NAME`.
+pub fn parse_command(words: &[String]) -> Option<Command<'_>>
+    ensures { MatchOption result (Asked (map string_bytes words.now) → ⊥) (IsAsked (map string_bytes words.now)) }
 {
     if words.len() != 3 {
         return None;
     }
-    let script = words[2].as_str();
-    if words[0].as_str() != "run" || !is_file_name(script) {
-        return None;
-    }
     let steps = step_count(words[1].as_str())?;
-    Some((steps, script))
+    command_of(words[0].as_str(), steps, words[2].as_str())
 }

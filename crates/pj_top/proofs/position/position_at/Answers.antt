@@ -1,5 +1,4 @@
-use Rattle.std.proofs.Common.{◌≡◌, ◌∙◌, ◌+◌, sym, arith, slice_index_or}
-use Rattle.pj_top.specs.Positions.{past}
+use Rattle.std.proofs.Common.{◌∙◌, sym, arith, slice_index_or}
 use Rattle.pj_top.proofs.Positioning.{at_the_end, column_grows, line_grows, one_more}
 use Rattle.pj_top.proofs.position.position_at.Goals as goal
 

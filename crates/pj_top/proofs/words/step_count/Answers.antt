@@ -1,5 +1,5 @@
 -- A word spells a number of steps exactly where it is that number's decimal digits.
-use Rattle.std.proofs.Common.{◌≡◌, ℕ, ◌^◌, ◌<◌, true, subst, sym, ap, ◌∙◌, arith, Ok, List, Bool}
+use Rattle.std.proofs.Common.{◌≡◌, ℕ, true, sym, ap, ◌∙◌, arith, List, Bool}
 use Rattle.std.proofs.lemmas.Bool.{false≢true}
 use Rattle.pj_top.specs.Commands.{starts_number}
 use Rattle.pj_top.proofs.Decimals.{starts-decimal, spells, misses}
