@@ -2,4 +2,8 @@
 #![tactic(auto)]
 
 #[cfg(test)]
+mod packages;
+#[cfg(test)]
+mod sessions;
+#[cfg(test)]
 mod tests;

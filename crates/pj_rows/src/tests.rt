@@ -15,7 +15,7 @@ const TENFOLD: &str = "f(x::Int64) = x * 10\nprintln(f(4))\n";
 const THREE_LINES: &str = "f(x::Int64) = x + 1\nprintln(f(1))\nprintln(f(2))\nprintln(f(3))\n";
 
 /// The words of a line, which are separated by one space.
-fn words_of(alloc: Global, line: &str) -> Result<Vec<String>, NoMemory> {
+pub fn words_of(alloc: Global, line: &str) -> Result<Vec<String>, NoMemory> {
     let mut words = Vec::new(alloc);
     if !line.is_empty() {
         for word in line.split(' ') {
@@ -39,7 +39,7 @@ fn depot_of(
 }
 
 /// A list of one number, or of none where it is 0.
-fn one_number(alloc: Global, number: u64) -> Result<NumberList, NoMemory> {
+pub fn one_number(alloc: Global, number: u64) -> Result<NumberList, NoMemory> {
     let mut numbers = Vec::new(alloc);
     if number != 0 {
         numbers.push(number)?;
@@ -178,7 +178,7 @@ fn mistakes_are_told_with_their_place(rt: HostRuntime) -> Result<(), Fail> {
         ("return 1", "syntax m.jl 1:1 Outside\n", 3),
         ("eval(x) = 1", "syntax m.jl 1:1 Reserved\n", 3),
         ("x = 1", "syntax m.jl 1:1 Unbuilt\n", 3),
-        ("using P", "syntax m.jl 1:1 Unbuilt\n", 3),
+        ("using P", "missing P.pimg\n", 5),
         ("f(x::Int64) = x * 10; println(f(4))", "40\n", 0),
         (
             "#= ten times =# f(x::Int64) =\n  x * 10 # as said\n\nprintln(f(\n4))\n",
@@ -227,7 +227,8 @@ fn other_words_and_files_are_told(rt: HostRuntime) -> Result<(), Fail> {
             2,
         ),
         ("Run 1 m.jl", USAGE, 2),
-        ("precompile 100 P", USAGE, 2),
+        ("precompile 100 P", "missing P.jl\n", 5),
+        ("precompile 100 P Q", USAGE, 2),
         ("report 100 m.jl", USAGE, 2),
         ("session 100 m.jl", USAGE, 2),
         ("generate 1 2", USAGE, 2),
