@@ -86,3 +86,7 @@ map_hashes g f xs h = distinct_by f (map g xs) (subst (IsDistinct (λ a b. a == 
 -- texts that are cut in two
 pub cut : {T : Type 0} (g : T → List ℕ) (xs : List T) (start : ℕ) (set : List (List ℕ)) → SameTexts set ([] ++ map g (take start xs)) → all_new set (map g (drop start xs)) ≡ all_new (take start (map g xs)) (drop start (map g xs))
 cut g xs start set same = rw (take-map g start xs, drop-map g start xs) (new_same (map g (drop start xs)) set (map g (take start xs)) same)
+
+-- those texts cut in two
+pub cut_whole : {T : Type 0} (g : T → List ℕ) (xs : List T) (start : ℕ) → all_new (map g (take start xs)) (map g (drop start xs)) ≡ all_new (take start (map g xs)) (drop start (map g xs))
+cut_whole g xs start = rw (take-map g start xs, drop-map g start xs) refl

@@ -67,13 +67,13 @@ impl<'a> Model for Distinct<'a> {
 }
 
 impl<'a> Distinct<'a> {
-    /// No texts. It takes no memory.
-    pub fn new(alloc: Global) -> Distinct<'a>
-        ensures { result ≡ [] }
+    /// No texts, with room for so many at once.
+    pub fn with_room(alloc: Global, count: usize) -> Result<Distinct<'a>, NoMemory>
+        ensures { IfOk result (λ s. s ≡ []) }
     {
-        Distinct {
-            texts: IndexSet::new(alloc),
-        }
+        Ok(Distinct {
+            texts: IndexSet::with_capacity(alloc, count)?,
+        })
     }
 
     /// Adds a text last, where it is new, and tells whether it was. Without memory nothing changes.

@@ -187,6 +187,7 @@ pub fn see_names<'a, T: Named>(
     ensures range { OnOk result (AllByRecursion T.in_range all.now) }
 {
     let start = seen.len();
+    seen.reserve(all.len())?;
     take_names(strings, all, seen)?;
     check_new(alloc, seen, start)
 }

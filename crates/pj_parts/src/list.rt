@@ -10,6 +10,7 @@ use crate::fault::PartFault;
 use crate::part::Part;
 use pj_base::{ByteList, NoMemory};
 use pj_fields::put_number;
+use pj_tree::with_room;
 use sqlite_items::Items;
 use std::alloc::Global;
 
@@ -27,7 +28,8 @@ fn put_list<T: Part>(alloc: Global, all: &[T], out: &mut ByteList) -> Result<(),
     Ok(())
 }
 
-/// So many, one after another, and the bytes after them.
+/// So many, one after another, and the bytes after them. Each has at least four bytes, so that a wrong number gets no more room
+/// than the bytes could fill.
 fn take_many<T: Part>(
     alloc: Global,
     count: u32,
@@ -35,7 +37,7 @@ fn take_many<T: Part>(
 ) -> Result<(Items<T>, &[u8]), PartFault>
     ensures { Gives (λ x. (x.0, x.1.now)) result (many T.at count source.now) }
 {
-    let mut found = Items::new(alloc);
+    let mut found = with_room(alloc, (count as usize).min(source.len() / 4));
     let mut rest = source;
     for _turn in 0..count {
         let (member, after) = T::take(alloc, rest)?;

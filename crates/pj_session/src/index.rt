@@ -129,7 +129,8 @@ fn string(strings: &[ShortText], number: u32) -> &str
 pub fn image_names(alloc: Global, image: &Image) -> Result<Names, NoMemory>
     ensures { Formed image.now → IfOk result (λ names. names ≡ names_in_image image.now) }
 {
-    let mut names = Names::new(alloc);
+    let count = image.functions.len().saturating_add(image.bindings.len());
+    let mut names = Names::with_room(alloc, count)?;
     let strings = image.strings.as_slice();
     for f in image.functions.as_slice() {
         names.intern(alloc, string(strings, f.name))?;

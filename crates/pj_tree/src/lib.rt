@@ -9,6 +9,7 @@ pub mod item_copy;
 pub mod numbering;
 mod reading;
 pub mod reading_laws;
+pub mod room;
 pub mod scope_rows;
 pub mod tree;
 pub mod tree_copy;
@@ -23,6 +24,7 @@ pub use fault::TreeFault;
 pub use item::{ItemList, PackageTree, ScriptTree, TextList, TopItem, TypeRefList};
 pub use item_copy::{copy_item, copy_items, copy_types};
 pub use reading::decode::decode_tree;
+pub use room::with_room;
 pub use tree::{
     Block, Body, DefTree, Expr, ExprList, Param, ParamList, Part, Payload, Stmt, Sym, SymList,
     TreeNode, TypeRef,

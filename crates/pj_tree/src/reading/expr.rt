@@ -5,8 +5,9 @@ ghost use Rattle.pj_tree.specs.Reading.{expr_at, expr_node_at};
 
 use crate::fault::TreeFault;
 use crate::reading::names::{int, number, sym};
+use crate::room::with_some_room;
 use crate::tree::{Expr, ExprList};
-use sqlite_items::{Boxed, Items};
+use sqlite_items::Boxed;
 use std::alloc::Global;
 
 #[cycle(expression)]
@@ -37,7 +38,7 @@ fn many_exprs(
 ) -> Result<(ExprList, &[u8]), TreeFault>
     ensures { Gives (λ x. (x.0, x.1.now)) result (many (expr_at below) count bytes.now) }
 {
-    let mut list = Items::new(alloc);
+    let mut list = with_some_room(alloc, count);
     let mut rest = bytes;
     for _turn in 0..count {
         let (member, after) = expr(alloc, rest, below)?;

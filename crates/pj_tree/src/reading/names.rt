@@ -4,9 +4,9 @@ ghost use Rattle.pj_tree.specs.Given.{Gives};
 ghost use Rattle.pj_tree.specs.Reading.{sym_at, syms_at, part_at, param_at};
 
 use crate::fault::TreeFault;
+use crate::room::with_some_room;
 use crate::tree::{Param, ParamList, Part, Sym, SymList, TypeRef};
 use pj_fields::{take_int, take_number};
-use sqlite_items::Items;
 use std::alloc::Global;
 
 pub(crate) fn number(bytes: &[u8]) -> Result<(u32, &[u8]), TreeFault>
@@ -57,7 +57,7 @@ fn param(bytes: &[u8]) -> Result<(Param, &[u8]), TreeFault>
 fn many_syms(alloc: Global, count: u32, bytes: &[u8]) -> Result<(SymList, &[u8]), TreeFault>
     ensures { Gives (λ x. (x.0, x.1.now)) result (many sym_at count bytes.now) }
 {
-    let mut list = Items::new(alloc);
+    let mut list = with_some_room(alloc, count);
     let mut rest = bytes;
     for _turn in 0..count {
         let (member, after) = sym(rest)?;
@@ -78,7 +78,7 @@ pub(crate) fn syms(alloc: Global, bytes: &[u8]) -> Result<(SymList, &[u8]), Tree
 fn many_params(alloc: Global, count: u32, bytes: &[u8]) -> Result<(ParamList, &[u8]), TreeFault>
     ensures { Gives (λ x. (x.0, x.1.now)) result (many param_at count bytes.now) }
 {
-    let mut list = Items::new(alloc);
+    let mut list = with_some_room(alloc, count);
     let mut rest = bytes;
     for _turn in 0..count {
         let (member, after) = param(rest)?;

@@ -6,8 +6,8 @@ ghost use Rattle.pj_tree.specs.Reading.{expr_at, stmt_at, stmt_node_at};
 use crate::fault::TreeFault;
 use crate::reading::expr::expr;
 use crate::reading::names::{number, part, sym, syms};
+use crate::room::with_some_room;
 use crate::tree::{Block, Stmt};
-use sqlite_items::Items;
 use std::alloc::Global;
 
 #[cycle(statement)]
@@ -30,7 +30,7 @@ fn many_stmts(
 ) -> Result<(Block, &[u8]), TreeFault>
     ensures { Gives (λ x. (x.0, x.1.now)) result (many (stmt_at below) count bytes.now) }
 {
-    let mut list = Items::new(alloc);
+    let mut list = with_some_room(alloc, count);
     let mut rest = bytes;
     for _turn in 0..count {
         let (member, after) = stmt(alloc, rest, below)?;

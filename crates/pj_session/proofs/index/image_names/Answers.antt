@@ -6,7 +6,7 @@ use Rattle.pj_session.proofs.Listed.{put_function, put_binding, turn, all_names}
 use Rattle.pj_session.proofs.index.image_names.Goals as goal
 
 pub loop-f-init : goal.loop-f-init
-loop-f-init c = λ formed. c.new-names.ensures
+loop-f-init c = λ formed. c.in_ok-names.ensures
 
 pub loop-f-preserved : goal.loop-f-preserved
 loop-f-preserved c = λ formed.
