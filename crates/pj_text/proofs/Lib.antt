@@ -1,3 +1,4 @@
 pub mod Fronts
 pub mod Readings
 pub mod Scripts
+pub mod Called

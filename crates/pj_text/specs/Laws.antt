@@ -1,9 +1,10 @@
--- A text has one reading: one syntax tree, or one fault, and never both.
+-- A text has one reading: one syntax tree, or one fault, and never both; and a package has the name that was asked for.
 use Rattle.std.specs.Prelude.{◌≡◌, ℕ, List}
 use Rattle.pj_lex.specs.declared.fault.SyntaxKind.{SyntaxKind}
 use Rattle.pj_grammar.specs.declared.mode.Parsed.{Parsed}
 use Rattle.pj_grammar.specs.Texts.{Kind}
-use Rattle.pj_text.specs.Texts.{IsFault, IsSyntax}
+use Rattle.pj_tree.specs.declared.item.PackageTree.{PackageTree}
+use Rattle.pj_text.specs.Texts.{IsFault, IsPackage, IsSyntax}
 
 abbrev pub OneSyntax : Type 0
 OneSyntax = (kind : Kind) (own bytes : List ℕ) (a b : Parsed) → IsSyntax kind own bytes a → IsSyntax kind own bytes b → a ≡ b
@@ -13,3 +14,6 @@ OneFault = (kind : Kind) (own bytes : List ℕ) (p q : ℕ) (a b : SyntaxKind) �
 
 abbrev pub NeverBoth : Type 0
 NeverBoth = (kind : Kind) (own bytes : List ℕ) (a : Parsed) (p : ℕ) (b : SyntaxKind) → IsSyntax kind own bytes a → IsFault kind own bytes p b → ⊥
+
+abbrev pub IsCalled : Type 0
+IsCalled = (name bytes : List ℕ) (tree : PackageTree) → IsPackage name bytes tree → tree.name ≡ name

@@ -1,11 +1,12 @@
 //! Which texts are scripts and packages of the language, and what is wrong with a text that is none. There is no product code here.
 #![tactic(auto)]
 
-ghost use Rattle.pj_text.specs.Laws.{NeverBoth, OneFault, OneSyntax};
+ghost use Rattle.pj_text.specs.Laws.{IsCalled, NeverBoth, OneFault, OneSyntax};
 
-/// A text has one syntax tree, or one fault at one place, and never both.
+/// A text has one syntax tree, or one fault at one place, and never both. A package has the name that was asked for.
 pub fn text_laws()
     ensures one_syntax { OneSyntax }
     ensures one_fault { OneFault }
     ensures never_both { NeverBoth }
+    ensures called { IsCalled }
 {}

@@ -8,6 +8,5 @@ pub mod RunningNames
 pub mod RunningItems
 pub mod RunningRead
 pub mod Driven
-pub mod PrecompilingNames
 pub mod PrecompilingBuilt
 pub mod PrecompilingTold

@@ -16,7 +16,7 @@ use Rattle.pj_top.specs.Claims.{IsBuilt, WritesImage}
 use Rattle.pj_top.specs.Endings.{PackageEnds, absent, long, faulty, unbuilt, builds, building, built_line, built_printed, built_status, missing_line, too_long_line, syntax_line, unbuilt_line, text_file, text_limit}
 use Rattle.pj_top.specs.Positions.{position_of}
 use Rattle.pj_top.specs.Stops.{Builds, Leads, Reaches}
-use Rattle.pj_top.specs.Building.{BuildsAs, FoundIn, IsUnbuilt, LacksMemory, OfForm, Serves, TellsLine, TreeBuilds, TreeEnds, TreeIn, WritesBuilt}
+use Rattle.pj_top.specs.Building.{BuildsAs, FoundIn, IsUnbuilt, LacksMemory, OfForm, Serves, TellsEnding, TreeBuilds, TreeEnds, TreeIn, WritesBuilt}
 use Rattle.pj_top.specs.declared.position.Position.{Position}
 use Rattle.pj_top.specs.declared.precompile.Found.{Found}
 use Rattle.pj_top.specs.declared.precompile.Found.TheVariants as found
@@ -25,54 +25,55 @@ use Rattle.pj_top.specs.declared.status.Status.TheVariants as ends
 use Rattle.pj_top.specs.declared.stop.Stop.{Stop}
 use Rattle.pj_top.specs.declared.stop.Stop.TheVariants as stop
 use Rattle.pj_top.specs.declared.stop.Ending.{Ending}
-use Rattle.pj_top.proofs.PrecompilingNames.{called}
+use Rattle.pj_text.proofs.Called.{called}
 
 -- ---- endings by their lines
 
-pub line_found : (files : Files) (name want : Text) (status : Status) (line : Result Text NoMemory) (result : Result Found Stop) → IfOk line (λ l. l ≡ want) → TellsLine line status result
-    → ((steps : ℕ) → PackageEnds files name steps [] want status) → IfOk result (FoundIn files name)
-line_found files name want status (Ok l) (Ok (found.Ends e)) same told so =
-    λ steps. subst (λ s. PackageEnds files name steps [] e.line s) (sym told.1) (subst (λ t. PackageEnds files name steps [] t status) (sym (told.0 ∙ same)) (so steps))
-line_found files name want status (Ok l) (Ok (found.Tree tree)) same told so = absurd told
-line_found files name want status (Ok l) (Err why) same told so = tt
-line_found files name want status (Err none) (Ok answer) same told so = absurd told
-line_found files name want status (Err none) (Err why) same told so = tt
+pub line_found : (files : Files) (name want : Text) (status : Status) (ending : Result Ending NoMemory) (result : Result Found Stop) → IfOk ending (λ e. e.line ≡ want) → IfOk ending (λ e. e.status ≡ status)
+    → TellsEnding ending result → ((steps : ℕ) → PackageEnds files name steps [] want status) → IfOk result (FoundIn files name)
+line_found files name want status (Ok t) (Ok (found.Ends e)) line ended told so =
+    λ steps. subst (λ (e : Ending). PackageEnds files name steps [] e.line e.status) (sym told)
+    (subst (λ s. PackageEnds files name steps [] t.line s) (sym ended) (subst (λ l. PackageEnds files name steps [] l status) (sym line) (so steps)))
+line_found files name want status (Ok t) (Ok (found.Tree tree)) line ended told so = absurd told
+line_found files name want status (Ok t) (Err why) line ended told so = tt
+line_found files name want status (Err none) (Ok answer) line ended told so = absurd told
+line_found files name want status (Err none) (Err why) line ended told so = tt
 
 some_and : (o : Option Text) (limit : ℕ) → IsSomeAnd o (λ bytes. limit < length bytes) → (bytes : Text) × (o ≡ Some bytes) × (limit < length bytes)
 some_and None limit h = elim h [ ]
 some_and (Some bytes) limit h = (bytes, refl, h)
 
-pub absent_found : (files : Option Files) (name file : Text) (line : Result Text NoMemory) (result : Result Found Stop) → file ≡ text_file name → IfSome files (λ fs. fs file ≡ None)
-    → IfOk line (λ l. l ≡ missing_line file) → TellsLine line ends.Missing result → IfSome files (λ fs. IfOk result (FoundIn fs name))
-absent_found None name file line result is none told tells = tt
-absent_found (Some fs) name file line result is none told tells =
-    line_found fs name (missing_line (text_file name)) ends.Missing line result (subst (λ f. IfOk line (λ l. l ≡ missing_line f)) is told) tells
+pub absent_found : (files : Option Files) (name file : Text) (ending : Result Ending NoMemory) (result : Result Found Stop) → file ≡ text_file name → IfSome files (λ fs. fs file ≡ None)
+    → IfOk ending (λ e. e.line ≡ missing_line file) → IfOk ending (λ e. e.status ≡ ends.Missing) → TellsEnding ending result → IfSome files (λ fs. IfOk result (FoundIn fs name))
+absent_found None name file ending result is none told ended tells = tt
+absent_found (Some fs) name file ending result is none told ended tells =
+    line_found fs name (missing_line (text_file name)) ends.Missing ending result (subst (λ f. IfOk ending (λ e. e.line ≡ missing_line f)) is told) ended tells
     (λ steps. absent (subst (λ f. fs f ≡ None) is none))
 
-pub long_found : (files : Option Files) (name file : Text) (line : Result Text NoMemory) (result : Result Found Stop) → file ≡ text_file name
+pub long_found : (files : Option Files) (name file : Text) (ending : Result Ending NoMemory) (result : Result Found Stop) → file ≡ text_file name
     → IfSome files (λ fs. IsSomeAnd (fs file) (λ bytes. text_limit < length bytes))
-    → IfOk line (λ l. l ≡ too_long_line file) → TellsLine line ends.TooLong result → IfSome files (λ fs. IfOk result (FoundIn fs name))
-long_found None name file line result is past told tells = tt
-long_found (Some fs) name file line result is past told tells =
+    → IfOk ending (λ e. e.line ≡ too_long_line file) → IfOk ending (λ e. e.status ≡ ends.TooLong) → TellsEnding ending result → IfSome files (λ fs. IfOk result (FoundIn fs name))
+long_found None name file ending result is past told ended tells = tt
+long_found (Some fs) name file ending result is past told ended tells =
     let more = some_and (fs (text_file name)) text_limit (subst (λ f. IsSomeAnd (fs f) (λ bytes. text_limit < length bytes)) is past) in
-    line_found fs name (too_long_line (text_file name)) ends.TooLong line result (subst (λ f. IfOk line (λ l. l ≡ too_long_line f)) is told) tells
+    line_found fs name (too_long_line (text_file name)) ends.TooLong ending result (subst (λ f. IfOk ending (λ e. e.line ≡ too_long_line f)) is told) ended tells
     (λ steps. long more.0 more.1 more.2)
 
 -- what a text gives, whatever the other files are
 abbrev TextFound : Text → Text → Result Found Stop → Type 0
 TextFound name text result = IfOk result (λ found. (files : Files) → files (text_file name) ≡ Some text → FoundIn files name found)
 
-ends_found : (name text want : Text) (status : Status) (line : Result Text NoMemory) (result : Result Found Stop) → IfOk line (λ l. l ≡ want) → TellsLine line status result
+ends_found : (name text want : Text) (status : Status) (ending : Result Ending NoMemory) (result : Result Found Stop) → IfOk ending (λ e. e.line ≡ want) → IfOk ending (λ e. e.status ≡ status) → TellsEnding ending result
     → ((files : Files) → files (text_file name) ≡ Some text → (steps : ℕ) → PackageEnds files name steps [] want status) → TextFound name text result
-ends_found name text want status line (Ok f) told tells so = λ files is. line_found files name want status line (Ok f) told tells (so files is)
-ends_found name text want status line (Err why) told tells so = tt
+ends_found name text want status ending (Ok f) told ended tells so = λ files is. line_found files name want status ending (Ok f) told ended tells (so files is)
+ends_found name text want status ending (Err why) told ended tells so = tt
 
-pub fault_found : (name text file : Text) (place : ℕ) (kind : SyntaxKind) (at : Position) (line : Result Text NoMemory) (result : Result Found Stop) → file ≡ text_file name
+pub fault_found : (name text file : Text) (place : ℕ) (kind : SyntaxKind) (at : Position) (ending : Result Ending NoMemory) (result : Result Found Stop) → file ≡ text_file name
     → at ≡ position_of text place → length text ≤ text_limit → IsPackageFault name text place kind
-    → IfOk line (λ l. l ≡ syntax_line file at kind) → TellsLine line ends.Syntax result → TextFound name text result
-fault_found name text file place kind at line result is there short fault told tells =
-    ends_found name text (syntax_line (text_file name) (position_of text place) kind) ends.Syntax line result
-    (subst (λ p. IfOk line (λ l. l ≡ syntax_line (text_file name) p kind)) there (subst (λ f. IfOk line (λ l. l ≡ syntax_line f at kind)) is told)) tells
+    → IfOk ending (λ e. e.line ≡ syntax_line file at kind) → IfOk ending (λ e. e.status ≡ ends.Syntax) → TellsEnding ending result → TextFound name text result
+fault_found name text file place kind at ending result is there short fault told ended tells =
+    ends_found name text (syntax_line (text_file name) (position_of text place) kind) ends.Syntax ending result
+    (subst (λ p. IfOk ending (λ e. e.line ≡ syntax_line (text_file name) p kind)) there (subst (λ f. IfOk ending (λ e. e.line ≡ syntax_line f at kind)) is told)) ended tells
     (λ files found steps. faulty text place kind found short fault)
 
 -- ---- a tree, by its form

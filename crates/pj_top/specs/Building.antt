@@ -24,20 +24,6 @@ use Rattle.pj_top.specs.declared.stop.Stop.{Stop}
 use Rattle.pj_top.specs.declared.stop.Stop.TheVariants as stop
 use Rattle.pj_top.specs.declared.stop.Ending.{Ending}
 
--- ---- stops that don't come
-
-abbrev pub NoSinkFault : {T : Type 0} → Result T Stop → Type 0
-NoSinkFault (Ok _) = ⊤
-NoSinkFault (Err stop.SinkFailed) = ⊥
-NoSinkFault (Err (stop.DepotFailed file)) = ⊤
-NoSinkFault (Err stop.NoMemory) = ⊤
-
-abbrev pub NoDepotFault : {T : Type 0} → Result T Stop → Type 0
-NoDepotFault (Ok _) = ⊤
-NoDepotFault (Err stop.SinkFailed) = ⊤
-NoDepotFault (Err (stop.DepotFailed file)) = ⊥
-NoDepotFault (Err stop.NoMemory) = ⊤
-
 -- a stop is for want of memory
 abbrev pub LacksMemory : {T : Type 0} → Result T Stop → Type 0
 LacksMemory (Ok _) = ⊤
@@ -47,15 +33,15 @@ LacksMemory (Err stop.NoMemory) = ⊤
 
 -- ---- what reading gives
 
--- the line and the status of an ending, or there was no memory for the line
-abbrev pub TellsLine : Result Text NoMemory → Status → Result Found Stop → Type 0
-TellsLine (Ok line) status (Ok (found.Ends e)) = (e.line ≡ line) × (e.status ≡ status)
-TellsLine (Ok line) status (Ok (found.Tree tree)) = ⊥
-TellsLine (Ok line) status (Err why) = ⊥
-TellsLine (Err none) status (Ok answer) = ⊥
-TellsLine (Err none) status (Err stop.NoMemory) = ⊤
-TellsLine (Err none) status (Err stop.SinkFailed) = ⊥
-TellsLine (Err none) status (Err (stop.DepotFailed file)) = ⊥
+-- an ending, or there was no memory for its line
+abbrev pub TellsEnding : Result Ending NoMemory → Result Found Stop → Type 0
+TellsEnding (Ok told) (Ok (found.Ends e)) = e ≡ told
+TellsEnding (Ok told) (Ok (found.Tree tree)) = ⊥
+TellsEnding (Ok told) (Err why) = ⊥
+TellsEnding (Err none) (Ok answer) = ⊥
+TellsEnding (Err none) (Err stop.NoMemory) = ⊤
+TellsEnding (Err none) (Err stop.SinkFailed) = ⊥
+TellsEnding (Err none) (Err (stop.DepotFailed file)) = ⊥
 
 -- a tree of the form that is built, and else the line that tells of another form, in the file of this name
 abbrev pub OfForm : Text → PackageTree → Result Found Stop → Type 0

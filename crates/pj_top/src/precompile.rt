@@ -1,15 +1,16 @@
 //! The building of a package's image.
 
-ghost use Rattle.std.specs.Prelude.{◌≡◌, ◌≤◌, ◌++◌, true, IfSome, IfOk, length};
+ghost use Rattle.std.specs.Prelude.{◌≡◌, ◌≤◌, ◌++◌, true, IfErr, IfSome, IfOk, length};
 ghost use Rattle.pj_words.specs.Words.{is_package_name};
 ghost use Rattle.pj_outside.specs.Stored.{Files, Keeps};
 ghost use Rattle.pj_plain.specs.Forms.{package_form};
 ghost use Rattle.pj_plain.specs.Held.{held_package};
 ghost use Rattle.pj_top.specs.Endings.{PackageEnds, text_file, text_limit};
 ghost use Rattle.pj_top.specs.Stops.{AddsSome, Builds, DepotCause, IsEnding, IsOfPackage, Leads, Reaches, SinkCause};
-ghost use Rattle.pj_top.specs.Building.{Concludes, EndsSo, FoundIn, IsSilent, LacksMemory, NoSinkFault, OfForm, Serves, Stored, TellsLine, TreeBuilds, TreeEnds, WritesFile};
+ghost use Rattle.pj_top.specs.Running.{IsNoSink};
+ghost use Rattle.pj_top.specs.Building.{Concludes, EndsSo, FoundIn, IsSilent, LacksMemory, OfForm, Serves, Stored, TellsEnding, TreeBuilds, TreeEnds, WritesFile};
 
-use crate::lines::{missing_line, mistake_line, too_long_line, unbuilt_line};
+use crate::ending::{faulty, missing, too_long, unbuilt};
 use crate::position::position_at;
 use crate::putting::{TEXT_LIMIT, put_printed};
 use crate::status::Status;
@@ -40,12 +41,12 @@ fn file_name(alloc: Global, name: &str, behind: &str) -> Result<Text, NoMemory>
     Ok(Text::from_string(file))
 }
 
-/// The end of a command by its line.
-fn line_end(line: Result<ByteList, NoMemory>, status: Status) -> Result<Found, Stop>
-    ensures { TellsLine line status result }
+/// The end of a command, unless there was no memory for its line.
+fn told_end(ending: Result<Ending, NoMemory>) -> Result<Found, Stop>
+    ensures { TellsEnding ending result }
 {
-    match line {
-        Ok(line) => Ok(Found::Ends(Ending { line, status })),
+    match ending {
+        Ok(ending) => Ok(Found::Ends(ending)),
         Err(_) => Err(Stop::NoMemory),
     }
 }
@@ -56,7 +57,7 @@ fn of_form(alloc: Global, file: &str, tree: PackageTree) -> Result<Found, Stop>
 {
     match package_runs(alloc, &tree) {
         Ok(true) => Ok(Found::Tree(tree)),
-        Ok(false) => line_end(unbuilt_line(alloc, file), Status::Syntax),
+        Ok(false) => told_end(unbuilt(alloc, file)),
         Err(_) => Err(Stop::NoMemory),
     }
 }
@@ -73,10 +74,7 @@ fn parsed(alloc: Global, name: &str, file: &str, text: &[u8]) -> Result<Found, S
         Ok(tree) => of_form(alloc, file, tree),
         Err(SyntaxFault::Syntax { place, kind }) => {
             let at = position_at(text, place);
-            line_end(
-                mistake_line(alloc, file, Mistake { at, kind }),
-                Status::Syntax,
-            )
+            told_end(faulty(alloc, file, Mistake { at, kind }))
         }
         Err(SyntaxFault::NoMemory) => Err(Stop::NoMemory),
     }
@@ -88,15 +86,15 @@ fn read_package<D: Depot>(alloc: Global, name: &str, depot: &mut D) -> Result<Fo
     ensures named { IfOk result (Serves name.now) }
     ensures same { IfSome (D.files depot.old) (λ files. Keeps files (D.files depot.new)) }
     ensures depot { DepotCause (IsOfPackage name.now) (D.faults depot.old) (D.faults depot.new) result }
-    ensures sink { NoSinkFault result }
+    ensures sink { IfErr result IsNoSink }
 {
     let Ok(file) = file_name(alloc, name, ".jl") else {
         return Err(Stop::NoMemory);
     };
     match depot.read(alloc, file.as_str(), TEXT_LIMIT) {
         ReadAnswer::Bytes(bytes) => parsed(alloc, name, file.as_str(), bytes.as_slice()),
-        ReadAnswer::Absent => line_end(missing_line(alloc, file.as_str()), Status::Missing),
-        ReadAnswer::TooLong => line_end(too_long_line(alloc, file.as_str()), Status::TooLong),
+        ReadAnswer::Absent => told_end(missing(alloc, file.as_str())),
+        ReadAnswer::TooLong => told_end(too_long(alloc, file.as_str())),
         ReadAnswer::Failed => Err(Stop::DepotFailed { file }),
         ReadAnswer::NoMemory => Err(Stop::NoMemory),
     }
@@ -112,7 +110,7 @@ fn write_image<D: Depot>(
     ensures ends { IfOk result IsSilent }
     ensures written { IfSome (D.files depot.old) (λ files. WritesFile files name.now image.now result (D.files depot.new)) }
     ensures depot { DepotCause (IsOfPackage name.now) (D.faults depot.old) (D.faults depot.new) result }
-    ensures sink { NoSinkFault result }
+    ensures sink { IfErr result IsNoSink }
 {
     let Ok(file) = file_name(alloc, name, ".pimg") else {
         return Err(Stop::NoMemory);
@@ -154,7 +152,7 @@ fn conclude<D: Depot>(
     ensures ends { Concludes outcome result }
     ensures stored { IfSome (D.files depot.old) (λ files. Stored files name.now outcome result (D.files depot.new)) }
     ensures depot { DepotCause (IsOfPackage name.now) (D.faults depot.old) (D.faults depot.new) result }
-    ensures sink { NoSinkFault result }
+    ensures sink { IfErr result IsNoSink }
 {
     match outcome {
         Ok(image) => write_image(alloc, name, image.as_slice(), depot),

@@ -2,7 +2,7 @@
 
 ghost use Rattle.std.specs.Prelude.{◌≡◌, IfErr, IfSome};
 ghost use Rattle.pj_outside.specs.Written.{Puts};
-ghost use Rattle.pj_top.specs.Building.{NoDepotFault};
+ghost use Rattle.pj_top.specs.Running.{IsNoDepot};
 ghost use Rattle.pj_top.specs.Stops.{SinkCause};
 
 use crate::stop::Stop;
@@ -15,7 +15,7 @@ pub const TEXT_LIMIT: usize = 1 << 20;
 pub fn put_printed<S: Sink>(printed: &[u8], out: &mut S) -> Result<(), Stop>
     ensures told { IfSome (S.written out.old) (λ old. Puts old printed.now result (S.written out.new)) }
     ensures cause { SinkCause (S.faults out.old) (S.faults out.new) result }
-    ensures depot { NoDepotFault result }
+    ensures depot { IfErr result IsNoDepot }
     ensures stop { IfErr result (λ why. why ≡ Stop.SinkFailed) }
 {
     if printed.is_empty() {

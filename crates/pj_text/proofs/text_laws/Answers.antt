@@ -1,3 +1,4 @@
+use Rattle.pj_text.proofs.Called.{called}
 use Rattle.pj_text.proofs.Readings.{never-both-law, one-fault, one-syntax}
 use Rattle.pj_text.proofs.text_laws.Goals as goal
 
@@ -9,3 +10,6 @@ returns-clause-one_fault c = one-fault
 
 pub returns-clause-never_both : goal.returns-clause-never_both
 returns-clause-never_both c = never-both-law
+
+pub returns-clause-called : goal.returns-clause-called
+returns-clause-called c = λ name bytes tree is. called is

@@ -4,9 +4,9 @@ use Rattle.pj_top.proofs.precompile.parsed.Goals as goal
 
 pub returns-in-Err-Syntax-clause-found : goal.returns-in-Err-Syntax-clause-found
 returns-in-Err-Syntax-clause-found c =
-    fault_found c.args.name.now c.args.text.now c.args.file.now c.in-Err-Syntax.place c.in-Err-Syntax.kind _ c.mistake_line.result c.line_end.result c.requires.file
+    fault_found c.args.name.now c.args.text.now c.args.file.now c.in-Err-Syntax.place c.in-Err-Syntax.kind _ c.faulty.result c.told_end.result c.requires.file
     c.position_at-at.ensures c.requires.short (rw c.in-Err-Syntax.field-0-is at c.in-Err-Syntax.ensures.fault)
-    c.mistake_line.ensures c.line_end.ensures
+    c.faulty.ensures.line c.faulty.ensures.status c.told_end.ensures
 
 pub returns-in-Ok-clause-found : goal.returns-in-Ok-clause-found
 returns-in-Ok-clause-found c =

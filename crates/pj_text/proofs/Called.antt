@@ -2,6 +2,7 @@
 use Rattle.std.proofs.Common.{◌≡◌, ℕ, Bool, true, false, not, List, ◌++◌, Option, Some, None, refl, sym, ap, ◌∙◌}
 use Rattle.std.specs.Prelude.{option_map}
 use Rattle.std.specs.Str.{bytes_eq}
+use Rattle.std.proofs.lemmas.Slice.Eq.{bytes_eq-Decides}
 use Rattle.pj_tree.specs.declared.item.PackageTree.{PackageTree}
 use Rattle.pj_syntax.specs.declared.item.Package.{Package}
 use Rattle.pj_faults.specs.declared.fault.Fault.{Fault}
@@ -11,7 +12,6 @@ use Rattle.pj_faults.specs.Faults.{faulty}
 use Rattle.pj_faults.specs.Found.{package_first}
 use Rattle.pj_text.specs.Scoped.{told}
 use Rattle.pj_text.specs.Texts.{IsPackage}
-use Rattle.pj_top.proofs.Texts.{same_text}
 
 sooner-some : (f : Fault) (o : Option Fault) → sooner (Some f) o ≡ None → ⊥
 unfolding sooner
@@ -30,7 +30,7 @@ not-false false h = cc
 
 named : (modules : List (List ℕ)) (asked : List ℕ) (p : Package) → package_first modules asked p ≡ None → p.name.text ≡ asked
 unfolding package_first
-named modules asked p h = same_text p.name.text asked (not-false (bytes_eq p.name.text asked) (no-first (not (bytes_eq p.name.text asked)) p.name.at _ h))
+named modules asked p h = (bytes_eq-Decides p.name.text asked).0 (not-false (bytes_eq p.name.text asked) (no-first (not (bytes_eq p.name.text asked)) p.name.at _ h))
 
 none-told : (o : Option Fault) → option_map told o ≡ None → o ≡ None
 none-told None h = refl
