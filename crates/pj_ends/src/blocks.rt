@@ -24,11 +24,17 @@ fn while_line(condition: Node, body: Lines) -> Result<Line, NoMemory>
 }
 
 /// A `for` with its bounds and its statements.
-fn for_line(name: Spot, first: Node, last: Node, body: Lines) -> Result<Line, NoMemory>
+fn for_line(
+    alloc: Global,
+    name: Spot,
+    first: Node,
+    last: Node,
+    body: Lines,
+) -> Result<Line, NoMemory>
     ensures { IfOk result (λ made. made ≡ for_of name first last body) }
 {
     small(first.nesting.max(last.nesting.max(body.nesting)))?;
-    Ok(for_of(name, first, last, body))
+    for_of(alloc, name, first, last, body)
 }
 
 /// A method with its block.
@@ -67,7 +73,7 @@ fn end_while(alloc: Global, condition: Node, lines: Lines, stack: Stack) -> Answ
 fn end_for(alloc: Global, name: Spot, first: Node, last: Node, lines: Lines, stack: Stack) -> Answer
     ensures { IfOk result (λ r. r ≡ close_block (Frame.Block (Opener.For name first last) lines ∷ stack)) }
 {
-    let line = for_line(name, first, last, lines)?;
+    let line = for_line(alloc, name, first, last, lines)?;
     closed_line(alloc, line, stack)
 }
 

@@ -153,7 +153,7 @@ fn statement_fault(
     match s {
         Stmt::Value(e) => Ok(value_fault(names, loops, e)),
         Stmt::Set(x, e) => Ok(sooner(bound_fault(modules, x), value_fault(names, loops, e))),
-        Stmt::SetField(of, _, e) => Ok(two_faults(names, loops, of, e)),
+        Stmt::SetField(of, _, e) => Ok(two_faults(names, loops, of.get(), e.get())),
         Stmt::Global(place, x, e) => Ok(global_fault(modules, names, loops, *place, x, e)),
         Stmt::Return(place, value) => {
             Ok(return_fault(names, loops, within.in_body, *place, value))
@@ -173,7 +173,7 @@ fn statement_fault(
             Ok(sooner(test, inner))
         }
         Stmt::For(x, first, last, block) => {
-            let bounds = two_faults(names, loops, first, last);
+            let bounds = two_faults(names, loops, first.get(), last.get());
             let block = block.as_slice();
             let inner = for_fault(alloc, modules, loops, within, names, x, block)?;
             Ok(sooner(sooner(bound_fault(modules, x), bounds), inner))

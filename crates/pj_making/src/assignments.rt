@@ -5,7 +5,7 @@ ghost use Rattle.pj_grammar.specs.Need.{holder_nesting};
 ghost use Rattle.pj_making.specs.Bounds.{most_nesting};
 
 use crate::copies::{copy_expr, copy_spot};
-use crate::expressions::{field_of, infix_of, name_of};
+use crate::expressions::{boxed, field_of, infix_of, name_of};
 use pj_base::NoMemory;
 use pj_grammar::{Line, Node, Operator, Target};
 use pj_syntax::{Path, Spot, Stmt};
@@ -56,32 +56,67 @@ pub fn target_value(alloc: Global, target: &Target) -> Result<Node, NoMemory>
     }
 }
 
-/// An assignment without an operator.
+/// An assignment of a name, without an operator.
 #[tactic(auto, unfolding(pj_grammar::specs::Makers::assign_of))]
-fn set_of(target: Target, e: Node) -> Line
+fn local_set(name: Spot, e: Node) -> Line
+    requires { e.nesting ≤ 3 + most_nesting }
+    ensures made { result ≡ assign_of (Target.Local name) None e }
+    ensures nests { result.nesting ≡ 1 + e.nesting }
+{
+    let nesting = 1 + e.nesting;
+    Line {
+        tree: Stmt::Set(name, e.tree),
+        nesting,
+    }
+}
+
+/// An assignment of a global, without an operator.
+#[tactic(auto, unfolding(pj_grammar::specs::Makers::assign_of))]
+fn global_set(at: usize, name: Spot, e: Node) -> Line
+    requires { e.nesting ≤ 3 + most_nesting }
+    ensures made { result ≡ assign_of (Target.Global at name) None e }
+    ensures nests { result.nesting ≡ 1 + e.nesting }
+{
+    let nesting = 1 + e.nesting;
+    Line {
+        tree: Stmt::Global(at, name, e.tree),
+        nesting,
+    }
+}
+
+/// The statement that sets a field.
+fn field_stmt(alloc: Global, holder: Node, field: Spot, e: Node) -> Result<Stmt, NoMemory>
+    ensures { IfOk result (λ tree. tree ≡ Stmt.SetField holder.tree field e.tree) }
+{
+    let holder = boxed(alloc, holder)?;
+    let value = boxed(alloc, e)?;
+    Ok(Stmt::SetField(holder, field, value))
+}
+
+/// An assignment of a field, without an operator.
+#[tactic(auto, unfolding(pj_grammar::specs::Makers::assign_of))]
+fn field_set(alloc: Global, holder: Node, field: Spot, e: Node) -> Result<Line, NoMemory>
+    requires holder { holder.nesting ≤ most_nesting }
+    requires value { e.nesting ≤ 3 + most_nesting }
+    ensures made { IfOk result (λ made. made ≡ assign_of (Target.Field holder field) None e) }
+    ensures nests { IfOk result (λ made. made.nesting ≡ 1 + max holder.nesting e.nesting) }
+{
+    let nesting = 1 + holder.nesting.max(e.nesting);
+    let tree = field_stmt(alloc, holder, field, e)?;
+    Ok(Line { tree, nesting })
+}
+
+/// An assignment without an operator.
+fn set_of(alloc: Global, target: Target, e: Node) -> Result<Line, NoMemory>
     requires holder { holder_nesting target ≤ most_nesting }
     requires value { e.nesting ≤ 3 + most_nesting }
-    ensures made { result ≡ assign_of target None e }
-    ensures nests { result.nesting ≡ 1 + max (holder_nesting target) e.nesting }
+    ensures made { IfOk result (λ made. made ≡ assign_of target None e) }
+    ensures nests { IfOk result (λ made. made.nesting ≡ 1 + max (holder_nesting target) e.nesting) }
 {
-    let Node {
-        tree: value,
-        nesting: below,
-        at: _,
-    } = e;
     match target {
-        Target::Local(name) => Line {
-            tree: Stmt::Set(name, value),
-            nesting: 1 + below,
-        },
-        Target::Field(holder, field) => Line {
-            nesting: 1 + holder.nesting.max(below),
-            tree: Stmt::SetField(holder.tree, field, value),
-        },
-        Target::Global(at, name) => Line {
-            tree: Stmt::Global(at, name, value),
-            nesting: 1 + below,
-        },
+        Target::Local(name) => Ok(local_set(name, e)),
+        Target::Field(holder, field) => field_set(alloc, holder, field, e),
+        Target::Global(at, name) => Ok(global_set(at, name, e)),
     }
 }
 
@@ -117,5 +152,5 @@ pub fn assign_of(
     ensures nests { IfOk result (λ made. made.nesting ≤ 4 + max (holder_nesting target) e.nesting) }
 {
     let value = assigned(alloc, &target, operator, e)?;
-    Ok(set_of(target, value))
+    set_of(alloc, target, value)
 }

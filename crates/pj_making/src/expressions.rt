@@ -89,7 +89,7 @@ pub fn name_of(path: Path) -> Node
 }
 
 /// A boxed tree.
-fn boxed(alloc: Global, e: Node) -> Result<Boxed<Expr>, NoMemory>
+pub fn boxed(alloc: Global, e: Node) -> Result<Boxed<Expr>, NoMemory>
     ensures { IfOk result (λ tree. tree ≡ e.tree) }
 {
     let Node {

@@ -3,9 +3,10 @@ ghost use Rattle.std.specs.Prelude.{◌≡◌, ◌+◌, ◌≤◌, IfOk, max};
 ghost use Rattle.pj_grammar.specs.Makers.{bare_return, break_of, continue_of, for_of, if_of, line_after, no_lines, one_line, return_of, value_of, while_of};
 ghost use Rattle.pj_making.specs.Bounds.{most_nesting};
 
+use crate::expressions::boxed;
 use pj_base::NoMemory;
 use pj_grammar::{Line, Lines, Node};
-use pj_syntax::{Spot, Stmt};
+use pj_syntax::{Block, Spot, Stmt};
 use sqlite_items::Items;
 use std::alloc::Global;
 
@@ -139,18 +140,37 @@ pub fn while_of(condition: Node, body: Lines) -> Line
     }
 }
 
+/// The statement that is a `for`.
+fn for_stmt(
+    alloc: Global,
+    name: Spot,
+    first: Node,
+    last: Node,
+    block: Block,
+) -> Result<Stmt, NoMemory>
+    ensures { IfOk result (λ tree. tree ≡ Stmt.For name first.tree last.tree block) }
+{
+    let first = boxed(alloc, first)?;
+    let last = boxed(alloc, last)?;
+    Ok(Stmt::For(name, first, last, block))
+}
+
 /// `for` over whole numbers between two bounds.
 #[tactic(auto, unfolding(pj_grammar::specs::Makers::for_of))]
-pub fn for_of(name: Spot, first: Node, last: Node, body: Lines) -> Line
+pub fn for_of(
+    alloc: Global,
+    name: Spot,
+    first: Node,
+    last: Node,
+    body: Lines,
+) -> Result<Line, NoMemory>
     requires first { first.nesting ≤ most_nesting }
     requires last { last.nesting ≤ most_nesting }
     requires body { body.nesting ≤ most_nesting }
-    ensures made { result ≡ for_of name first last body }
-    ensures nests { result.nesting ≡ 1 + max (max first.nesting last.nesting) body.nesting }
+    ensures made { IfOk result (λ made. made ≡ for_of name first last body) }
+    ensures nests { IfOk result (λ made. made.nesting ≡ 1 + max (max first.nesting last.nesting) body.nesting) }
 {
     let nesting = 1 + first.nesting.max(last.nesting).max(body.nesting);
-    Line {
-        tree: Stmt::For(name, first.tree, last.tree, body.trees),
-        nesting,
-    }
+    let tree = for_stmt(alloc, name, first, last, body.trees)?;
+    Ok(Line { tree, nesting })
 }

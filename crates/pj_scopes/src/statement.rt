@@ -205,7 +205,7 @@ pub fn statement(alloc: Global, top: bool, names: &mut NameSet, s: &Stmt) -> Res
     match s {
         Stmt::Value(e) => Ok(Tree::Value(value(alloc, names, e)?)),
         Stmt::Set(x, e) => set_tree(alloc, top, x, value(alloc, names, e)?),
-        Stmt::SetField(of, x, e) => field_tree(alloc, names, of, x, e),
+        Stmt::SetField(of, x, e) => field_tree(alloc, names, of.get(), x, e.get()),
         Stmt::Global(_, x, e) => global_tree(alloc, names, x, e),
         Stmt::Return(_, e) => Ok(Tree::Return(returned(alloc, names, e)?)),
         Stmt::Break(_) => Ok(Tree::Break),
@@ -221,6 +221,7 @@ pub fn statement(alloc: Global, top: bool, names: &mut NameSet, s: &Stmt) -> Res
         }
         Stmt::For(x, first, last, block) => {
             let (introduced, inner) = loop_scoped(alloc, names, x, block.as_slice())?;
+            let (first, last) = (first.get(), last.get());
             for_tree(alloc, names, x, first, last, introduced, inner)
         }
         Stmt::Eval(module, payload) => eval_tree(alloc, module, payload.get()),

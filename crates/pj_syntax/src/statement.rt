@@ -14,20 +14,21 @@ pub type ParamList = Items<Param>;
 pub type Block = Items<Stmt>;
 
 /// A statement. `x op= e` is `x = x op e`, and `p.f op= e` is `p.f = p.f op e`. The place of `global`, `return`, `break` and
-/// `continue` is that of the word. `elseif` is an `if` in the other branch, and a branch that isn't written is empty.
+/// `continue` is that of the word. `elseif` is an `if` in the other branch, and a branch that isn't written is empty. What two
+/// expressions make is boxed, so that a statement takes little room.
 #[cycle(statement)]
 #[derive(Debug, Drop)]
 pub enum Stmt {
     Value(Expr),
     Set(Spot, Expr),
-    SetField(Expr, Spot, Expr),
+    SetField(Boxed<Expr>, Spot, Boxed<Expr>),
     Global(usize, Spot, Expr),
     Return(usize, Option<Expr>),
     Break(usize),
     Continue(usize),
     If(Expr, Block, Block),
     While(Expr, Block),
-    For(Spot, Expr, Expr, Block),
+    For(Spot, Boxed<Expr>, Boxed<Expr>, Block),
     Eval(Option<Spot>, Boxed<Payload>),
 }
 
