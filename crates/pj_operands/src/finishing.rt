@@ -2,8 +2,9 @@
 ghost use Rattle.std.specs.Prelude.{◌≡◌, ◌∷◌, IfOk};
 ghost use Rattle.pj_grammar.specs.Frames.{at as state_at};
 ghost use Rattle.pj_grammar.specs.Makers.{no_lines};
-ghost use Rattle.pj_grammar.specs.Operands.{add_name, after_purpose, begin_type, finish_at, have_first, have_other, have_path, have_value, is_type_word};
-ghost use Rattle.pj_operands.specs.Wants.{wanted_of};
+ghost use Rattle.pj_grammar.specs.Operands.{add_name, after_purpose, begin_type, finish_at, have_other, have_path, have_value, is_type_word};
+ghost use Rattle.pj_frames.specs.Stacked.{frames_of};
+ghost use Rattle.pj_operands.specs.Wants.{below_top, first_on, path_on, wanted_of, wanted_on};
 
 use crate::calls::{after_argument, after_group};
 use pj_ends::ends::after_end;
@@ -12,7 +13,7 @@ use pj_ends::lines::{closed_entry, closed_line};
 use pj_ends::params::{add_param, after_function, after_path};
 use pj_frames::reading::{Answer, Reading, at, guarded, let_go, over};
 use pj_frames::settling::{Operand, settle};
-use pj_frames::stack::Stack;
+use pj_frames::stack::{Layer, Stack, split_top};
 use pj_frames::view::takes_items;
 use pj_grammar::{Frame, Given, Head, Level, Mode, Node, Opener, Operator, Purpose, Target};
 use pj_lex::{Sign, TokenKind};
@@ -236,19 +237,28 @@ fn begin_type(kind: &TokenKind, stack: Stack) -> Option<Reading>
     }
 }
 
-/// What follows the first operand of a statement or a payload.
-fn have_first(alloc: Global, head: Head, mut stack: Stack, kind: TokenKind) -> Answer
-    ensures { IfOk result (λ r. r ≡ have_first head stack kind) }
+/// The frames below the one on top.
+fn below_top(mut stack: Stack) -> Stack
+    ensures { result ≡ below_top stack }
+{
+    match stack.pop() {
+        Some(_) => stack,
+        None => stack,
+    }
+}
+
+/// What follows the first operand of a statement or a payload, whose frame is on top.
+fn have_first(alloc: Global, head: Head, stack: Stack, kind: TokenKind) -> Answer
+    ensures { IfOk result (λ r. r ≡ first_on head stack kind) }
 {
     if is_type_word(&head, &kind) {
-        return Ok(begin_type(&kind, stack));
+        return Ok(begin_type(&kind, below_top(stack)));
     }
-    stack.push(Frame::Hole(Purpose::Value))?;
     have_value(alloc, head, stack, kind)
 }
 
-/// What follows a name in a place that takes no expression.
-fn have_path(
+/// What follows a name in a place that takes no expression, over the frame of the place.
+fn path_over(
     alloc: Global,
     frame: Frame,
     path: Option<Path>,
@@ -260,6 +270,16 @@ fn have_path(
 {
     match path {
         Some(path) => after_path(alloc, frame, path, stack, start, kind),
+        None => Ok(None),
+    }
+}
+
+/// What follows a name in a place that takes no expression, whose frame is on top.
+fn have_path(alloc: Global, head: Head, mut stack: Stack, start: usize, kind: TokenKind) -> Answer
+    ensures { IfOk result (λ r. r ≡ path_on head stack start kind) }
+{
+    match stack.pop() {
+        Some(frame) => path_over(alloc, frame, head_path(head), stack, start, kind),
         None => Ok(None),
     }
 }
@@ -309,45 +329,26 @@ fn wanted_by(frame: &Frame) -> Wanted
     }
 }
 
-/// What follows an operand over a frame.
-#[tactic(auto, using(crate::proofs::Wants::by_wanted))]
-fn have_over(
-    alloc: Global,
-    head: Head,
-    frame: Frame,
-    mut stack: Stack,
-    start: usize,
-    kind: TokenKind,
-) -> Answer
-    ensures { IfOk result (λ r. r ≡ have_other head (frame ∷ stack) start kind) }
+/// What the frame on top takes behind an operand. Where there is none, a value follows.
+fn wanted_on(layers: &[Layer]) -> Wanted
+    ensures { result ≡ wanted_on (frames_of layers.now) }
 {
-    match wanted_by(&frame) {
-        Wanted::Declared => after_function(head, stack, kind),
-        Wanted::Param => {
-            stack.push(frame)?;
-            add_name(alloc, head, stack, kind)
-        }
-        Wanted::Path => have_path(alloc, frame, head_path(head), stack, start, kind),
-        Wanted::First => have_first(alloc, head, stack, kind),
-        Wanted::Value => {
-            stack.push(frame)?;
-            have_value(alloc, head, stack, kind)
-        }
+    match split_top(layers) {
+        Some((frame, _)) => wanted_by(frame),
+        None => Wanted::Value,
     }
 }
 
 /// What follows an operand, where no sign goes on with it.
-pub fn have_other(
-    alloc: Global,
-    head: Head,
-    mut stack: Stack,
-    start: usize,
-    kind: TokenKind,
-) -> Answer
+#[tactic(auto, using(crate::proofs::Wants::by_wanted))]
+pub fn have_other(alloc: Global, head: Head, stack: Stack, start: usize, kind: TokenKind) -> Answer
     ensures { IfOk result (λ r. r ≡ have_other head stack start kind) }
 {
-    match stack.pop() {
-        Some(frame) => have_over(alloc, head, frame, stack, start, kind),
-        None => have_value(alloc, head, stack, kind),
+    match wanted_on(stack.layers()) {
+        Wanted::Declared => after_function(head, below_top(stack), kind),
+        Wanted::Param => add_name(alloc, head, stack, kind),
+        Wanted::Path => have_path(alloc, head, stack, start, kind),
+        Wanted::First => have_first(alloc, head, stack, kind),
+        Wanted::Value => have_value(alloc, head, stack, kind),
     }
 }
