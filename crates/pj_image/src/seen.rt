@@ -8,7 +8,7 @@ use crate::distinct::Distinct;
 use crate::hashes::hashes_differ;
 use pj_base::NoMemory;
 use pj_parts::ShortText;
-use std::alloc::Global;
+use std::alloc::{AllocError, Global};
 use std::marker::Model;
 
 /// Up to how many texts each is compared with each.
@@ -81,11 +81,10 @@ impl<'a> Seen<'a> {
     }
 
     /// Makes room for so many more texts.
-    pub fn reserve(&mut self, count: usize) -> Result<(), NoMemory>
+    pub fn reserve(&mut self, count: usize) -> Result<(), AllocError>
         ensures { self.new ≡ self.old }
     {
-        self.texts.reserve(count)?;
-        Ok(())
+        self.texts.reserve(count)
     }
 
     /// Adds a text last. Without memory nothing changes.

@@ -5,7 +5,7 @@ use Rattle.pj_parts.proofs.Loops.{fails}
 use Rattle.pj_parts.proofs.list.take_many.Goals as goal
 
 pub loop-turn-init : goal.loop-turn-init
-loop-turn-init g c = rw c.new-found.ensures (begins g.T.Part.at c.args.count c.args.source.now)
+loop-turn-init g c = rw c.with_room-found.ensures (begins g.T.Part.at c.args.count c.args.source.now)
 
 pub returns-in_err-member : goal.returns-in_err-member
 returns-in_err-member g c =

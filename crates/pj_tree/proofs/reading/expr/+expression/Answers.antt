@@ -6,7 +6,7 @@ use Rattle.pj_tree.proofs.Loops.{fails}
 use Rattle.pj_tree.proofs.reading.expr.+expression.Goals as goal
 
 pub many_exprs-loop-turn-init : goal.many_exprs-loop-turn-init
-many_exprs-loop-turn-init t c = rw c.new-list.ensures (begins (expr_at c.args.below) c.args.count c.args.bytes.now)
+many_exprs-loop-turn-init t c = rw c.with_some_room-list.ensures (begins (expr_at c.args.below) c.args.count c.args.bytes.now)
 
 pub many_exprs-returns-in_err-member : goal.many_exprs-returns-in_err-member
 many_exprs-returns-in_err-member t c =

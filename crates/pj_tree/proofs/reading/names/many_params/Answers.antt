@@ -6,7 +6,7 @@ use Rattle.pj_tree.proofs.Loops.{fails}
 use Rattle.pj_tree.proofs.reading.names.many_params.Goals as goal
 
 pub loop-turn-init : goal.loop-turn-init
-loop-turn-init c = rw c.new-list.ensures (begins param_at c.args.count c.args.bytes.now)
+loop-turn-init c = rw c.with_some_room-list.ensures (begins param_at c.args.count c.args.bytes.now)
 
 pub returns-in_err-member : goal.returns-in_err-member
 returns-in_err-member c =

@@ -6,7 +6,7 @@ use Rattle.pj_tree.proofs.Loops.{fails}
 use Rattle.pj_tree.proofs.reading.stmt.+statement.Goals as goal
 
 pub many_stmts-loop-turn-init : goal.many_stmts-loop-turn-init
-many_stmts-loop-turn-init t c = rw c.new-list.ensures (begins (stmt_at c.args.below) c.args.count c.args.bytes.now)
+many_stmts-loop-turn-init t c = rw c.with_some_room-list.ensures (begins (stmt_at c.args.below) c.args.count c.args.bytes.now)
 
 pub many_stmts-returns-in_err-member : goal.many_stmts-returns-in_err-member
 many_stmts-returns-in_err-member t c =
