@@ -8,6 +8,9 @@ use crate::answers::{ReadAnswer, SinkFault};
 use std::alloc::Global;
 use std::io::{Read, Write};
 
+/// How many bytes are asked of a reader at a time.
+const PIECE: usize = 16_384;
+
 /// Reads all that a reader has left, where it has at most `limit` bytes. It asks for no more than one byte past the limit.
 /// Failed says that the reader failed, and then some bytes may have been taken.
 pub fn read_whole<R: Read>(alloc: Global, reader: &mut R, limit: usize) -> ReadAnswer
@@ -15,10 +18,10 @@ pub fn read_whole<R: Read>(alloc: Global, reader: &mut R, limit: usize) -> ReadA
     ensures whole { IfSome (R.remaining reader.old) (λ left. ReadsWhole left limit result) }
 {
     let mut bytes = Vec::new(alloc);
-    let mut buffer = [0u8; 4096];
+    let mut buffer = [0u8; PIECE];
     for _ in 0..u64::MAX {
         let free = limit - bytes.len();
-        let asked = if free < 4096 { free + 1 } else { 4096 };
+        let asked = if free < PIECE { free + 1 } else { PIECE };
         let piece = &mut buffer[..asked];
         match reader.read(piece) {
             Ok(0) => return ReadAnswer::Bytes(bytes),
