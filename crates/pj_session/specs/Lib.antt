@@ -24,6 +24,7 @@ pub mod OwnItems
 pub mod Found
 pub mod Starting
 pub mod SessionItems
+pub mod RowsItems
 pub mod Using
 pub mod Spent
 pub mod Fetching

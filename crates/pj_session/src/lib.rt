@@ -16,6 +16,7 @@ pub mod found;
 pub mod here;
 pub mod index;
 pub mod index_laws;
+pub mod item_rows;
 pub mod load;
 pub mod number;
 pub mod own;
