@@ -46,10 +46,10 @@ file_read name bytes i file short =
     let fine : nat_lt 67108864 (length bytes) ≡ false = grind (arith, nat_tests) in
     rw (fine, read_again name bytes i file) refl
 
-pub is_own : (s : Session) → image_count (events_of s) ≡ 0 → events_of s ≡ own_events s.own s.things.items
-is_own s none = own_only s.order.items s.own s.things.items s.images.items s.ordered none
+pub is_own : (s : Session) → image_count (events_of s) ≡ 0 → events_of s ≡ own_events s.tables.own s.tables.things.items
+is_own s none = let t = s.tables in own_only t.order.items t.own t.things.items t.images.items t.ordered none
 
-built : (s : Session) → image_count (events_of s) ≡ 0 → (i : Image) (bytes : List ℕ) → i.head.name ≡ s.here → Keeps s.here s.own s.things.items (image.content_of i) → misfit i ≡ None
+built : (s : Session) → image_count (events_of s) ≡ 0 → (i : Image) (bytes : List ℕ) → i.head.name ≡ s.here → Keeps s.here s.tables.own s.tables.things.items (image.content_of i) → misfit i ≡ None
     → IsFileOf i.head.name bytes i → length bytes ≤ 67108864 → Built s.here (content_of 1 (state_seen s)) bytes
 built s none i bytes called keeps fits file short =
     let file' : IsFileOf s.here bytes i = subst (λ (n : Text). IsFileOf n bytes i) called file in
@@ -62,7 +62,7 @@ built s none i bytes called keeps fits file short =
       read = file_read s.here bytes i file' short;
     }
 
-pub where_spelled : {E : Type 0} (s : Session) → image_count (events_of s) ≡ 0 → (i : Image) (r : Result Text E) → i.head.name ≡ s.here → Keeps s.here s.own s.things.items (image.content_of i) → misfit i ≡ None
+pub where_spelled : {E : Type 0} (s : Session) → image_count (events_of s) ≡ 0 → (i : Image) (r : Result Text E) → i.head.name ≡ s.here → Keeps s.here s.tables.own s.tables.things.items (image.content_of i) → misfit i ≡ None
     → IfOk r (λ bytes. IsFileOf i.head.name bytes i) → IfOk r (λ bytes. length bytes ≤ 67108864) → IfOk r (Built s.here (content_of 1 (state_seen s)))
 where_spelled s none i (Ok bytes) called keeps fits file short = built s none i bytes called keeps fits file short
 where_spelled s none i (Err e) called keeps fits file short = tt

@@ -77,8 +77,8 @@ fn image_bytes(alloc: Global, session: &Session) -> Result<ByteList, NoMemory>
     requires alone { image_count (events_of session.now) ≡ 0 }
     ensures { IfOk result (Built session.now.here (content_of 1 (state_seen session.now))) }
 {
-    let things = session.things.as_slice();
-    let image = image_of(alloc, session.here.as_str(), &session.own, things)?;
+    let things = session.tables.things.as_slice();
+    let image = image_of(alloc, session.here.as_str(), &session.tables.own, things)?;
     spelled(alloc, &image)
 }
 

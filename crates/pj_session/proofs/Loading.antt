@@ -5,7 +5,6 @@ use Rattle.std.specs.Str.{bytes_eq}
 use Rattle.pj_base.specs.Interned.{Interns, has_text}
 use Rattle.pj_meaning.specs.Tree.{Text}
 use Rattle.pj_meaning.specs.Content.{Content}
-use Rattle.pj_meaning.specs.Packages.{Held}
 use Rattle.pj_session.specs.Events.{Event, Defines, Binds, Loads}
 use Rattle.pj_session.specs.Things.{image_in}
 use Rattle.pj_session.specs.Uses.{image_count}
@@ -162,13 +161,13 @@ unrefused false None full h = (refl, refl)
 unrefused false (Some k) full h = absurd cc
 
 pub added : (before after : Session) (name bytes : List ℕ) (i : Image) (count : ℕ) → length bytes ≤ 67108864 → file_at name bytes ≡ Ok i → IsFileOf name bytes i
-    → why_refused before.here (events_of before) name (misfit i) ≡ None → events_of after ≡ events_of before ++ Loads (held_of_file bytes i) ∷ [] → count ≡ length after.images.items
+    → why_refused before.here (events_of before) name (misfit i) ≡ None → events_of after ≡ events_of before ++ Loads (held_of_file bytes i) ∷ [] → count ≡ length after.tables.images.items
     → Added before name bytes count after
 added before after name bytes i count short e is alone events many = record {
   image = image_of (identity_in bytes) i;
   judged = judged before name bytes i None short e is alone;
   events = events;
-  many = many ∙ sym (counted after.order.items after.own after.things.items after.images.items after.ordered);
+  many = many ∙ sym (counted after.tables.order.items after.tables.own after.tables.things.items after.tables.images.items after.tables.ordered);
   good = λ good.
       let two = unrefused (counts_loaded before.here (events_of before) name) (misfit i) (no_room before.here (events_of before)) alone in
       subst (λ (es : List Event). Good before.here es) (sym events) (file_law before.here (events_of before) good name bytes i is two.1 two.0).after;
@@ -183,27 +182,15 @@ not_full false h = refl
 below : (a b : ℕ) → nat_le a b ≡ false → b < a
 below a b h = grind (arith, nat_tests)
 
-few : (loaded : Bool) (wrong : Option ℕ) (b : Bool) (n : ℕ) → cond loaded (Some script.IsLoaded) (refused_for wrong (cond b (nat_le 1023 n) (nat_le 1024 n))) ≡ None → n < 1024
+few : (loaded : Bool) (wrong : Option ℕ) (b : Bool) (n : ℕ) → cond loaded (Some script.IsLoaded) (refused_for wrong (nat_le 1024 (cond b (suc n) n))) ≡ None → n < 1024
 few true wrong b n h = absurd cc
 few false (Some k) b n h = absurd cc
-few false None true n h = omega (arith, below 1023 n (not_full (nat_le 1023 n) h))
+few false None true n h = omega (arith, below 1024 (suc n) (not_full (nat_le 1024 (suc n)) h))
 few false None false n h = below 1024 n (not_full (nat_le 1024 n) h)
 
-count_more : (es : List Event) (h : Held) → image_count (es ++ Loads h ∷ []) ≡ suc (image_count es)
-count_more [] h = refl
-count_more (Defines f ps e ∷ es) h = count_more es h
-count_more (Binds x z ∷ es) h = count_more es h
-count_more (Loads k ∷ es) h = ap suc (count_more es h)
+pub has_room : (here : Text) (es : List Event) (name : Text) (wrong : Option ℕ) → why_refused here es name wrong ≡ None → image_count es < 1024
+has_room here es name wrong h = few (counts_loaded here es name) wrong (builds here) (image_count es) h
 
-pub small : (before after : Session) (name : List ℕ) (wrong : Option ℕ) (h : Held) → why_refused before.here (events_of before) name wrong ≡ None → events_of after ≡ events_of before ++ Loads h ∷ []
-    → length after.images.items ≤ 1024
-small before after name wrong h alone events =
-    let one : image_count (events_of before) ≡ length before.images.items = counted before.order.items before.own before.things.items before.images.items before.ordered in
-    let two : image_count (events_of after) ≡ length after.images.items = counted after.order.items after.own after.things.items after.images.items after.ordered in
-    let space : no_room before.here (events_of before) ≡ cond (builds before.here) (nat_le 1023 (length before.images.items)) (nat_le 1024 (length before.images.items)) =
-    room before.here before.order.items before.own before.things.items before.images.items before.ordered in
-    let less : length before.images.items < 1024 =
-    few (counts_loaded before.here (events_of before) name) wrong (builds before.here) (length before.images.items)
-    (subst (λ (f : Bool). cond (counts_loaded before.here (events_of before) name) (Some script.IsLoaded) (refused_for wrong f) ≡ None) space alone) in
-    let more : length after.images.items ≡ suc (length before.images.items) = sym two ∙ ap image_count events ∙ count_more (events_of before) h ∙ ap suc one in
-    omega (arith, less, more)
+pub few_more : (order : List Kind) (names : List Text) (things : List Own) (images : List Package) (q : Package) → is_ordered order names things images ≡ true → image_count (merged order names things images) < 1024
+    → length (images ++ q ∷ []) ≤ 1024
+few_more order names things images q fits room = omega (arith, counted order names things images fits, room, length-append images (q ∷ []))

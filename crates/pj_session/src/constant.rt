@@ -33,7 +33,7 @@ impl Session {
         ensures here { self.new.here ≡ self.old.here }
         ensures spent { self.new.spent ≡ self.old.spent }
     {
-        match self.add_own(alloc, name, Own::Constant(value)) {
+        match self.tables.add_own(alloc, name, Own::Constant(value)) {
             Ok(()) => Ok(()),
             Err(_) => Err(End::NoMemory),
         }

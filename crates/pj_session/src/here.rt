@@ -22,7 +22,7 @@ impl Session {
         ensures { Answers (called_in self.now.here (events_of self.now) [] name.now arguments.now left.old) result left.new }
     {
         let here = self.here.as_str();
-        match self.own(name) {
+        match self.tables.own(name) {
             Some(thing) => call(alloc, &thing, here, name, arguments, left),
             None => Err(undefined(alloc, here, name)),
         }

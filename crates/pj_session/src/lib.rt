@@ -25,6 +25,7 @@ pub mod session;
 pub mod shown;
 pub mod start;
 pub mod state;
+pub mod tables;
 pub mod thing;
 pub mod things;
 pub mod top;
@@ -37,7 +38,7 @@ ghost use Rattle.pj_session.specs.Rows.{these_events_are_good, a_constant_of_a_p
 pub use end::End;
 pub use error::ErrorValue;
 pub use load::LoadFault;
-pub use state::Session;
+pub use state::{Session, Tables};
 pub use using::UsingFault;
 
 /// What a plain expression gives, and how many charges it takes.

@@ -1,21 +1,18 @@
 //! Loading an image.
 
-ghost use Rattle.std.specs.Prelude.{◌≡◌, ◌≤◌, ◌∷◌, [], ◌++◌, Ok, Some, None, true, IfOk, IfErr, IsErrOf, OnOk, OnErr, length, suc};
+ghost use Rattle.std.specs.Prelude.{◌≡◌, ◌≤◌, ◌∷◌, [], ◌++◌, Ok, None, true, IfOk, IfErr, IsErrOf, OnOk, OnErr, length};
 ghost use Rattle.pj_image.specs.File.{file_at};
 ghost use Rattle.pj_image.specs.Formed.{Formed, IsFileOf};
 ghost use Rattle.pj_content.specs.Misfit.{misfit as image_misfit};
 ghost use Rattle.pj_content.specs.Readings.{identity_in};
 ghost use Rattle.pj_session.specs.Events.{Loads};
-ghost use Rattle.pj_session.specs.Things.{image_in};
-ghost use Rattle.pj_session.specs.Uses.{builds, counts_loaded, image_count, no_room};
-ghost use Rattle.pj_session.specs.FromFiles.{held_of as held_of_file, why_refused};
-ghost use Rattle.pj_session.specs.Merged.{held_of, image_name};
+ghost use Rattle.pj_session.specs.Uses.{builds, counts_loaded, no_room};
+ghost use Rattle.pj_session.specs.FromFiles.{held_of, why_refused};
 ghost use Rattle.pj_session.specs.Seen.{events_of};
 ghost use Rattle.pj_session.specs.Loading.{Added, Reads, Refuses, Tells};
 ghost use Rattle.pj_session.specs.declared.load.LoadFault.{LoadFault};
 
 use crate::index::{image_names, method_list};
-use crate::own::Kind;
 use crate::package::Package;
 use crate::state::Session;
 use pj_base::NoMemory;
@@ -91,7 +88,7 @@ impl Session {
     pub(crate) fn counts_loaded(&self, name: &str) -> bool
         ensures { result ≡ counts_loaded self.now.here (events_of self.now) name.now }
     {
-        self.package(name).is_some() || (self.builds() && self.here.as_str() == name)
+        self.tables.package(name).is_some() || (self.builds() && self.here.as_str() == name)
     }
 
     /// Whether no more images can be loaded. A package that is built counts as one of the 1,024.
@@ -99,9 +96,9 @@ impl Session {
         ensures { result ≡ no_room self.now.here (events_of self.now) }
     {
         if self.builds() {
-            self.images.len() >= 1023
+            self.tables.images.len() >= 1023
         } else {
-            self.images.len() >= 1024
+            self.tables.images.len() >= 1024
         }
     }
 
@@ -124,24 +121,6 @@ impl Session {
         Ok(())
     }
 
-    /// Adds an image of a new name. Without memory nothing changes.
-    fn add_image(&mut self, alloc: Global, name: &str, loaded: Package) -> Result<(), NoMemory>
-        requires new { image_in (events_of self.old) name.now ≡ None }
-        requires called { image_name loaded ≡ name.now }
-        ensures added { OnOk result (events_of self.new ≡ events_of self.old ++ Loads (held_of loaded) ∷ []) }
-        ensures unchanged { OnErr result (events_of self.new ≡ events_of self.old) }
-        ensures here { self.new.here ≡ self.old.here }
-        ensures printed { self.new.printed ≡ self.old.printed }
-        ensures spent { self.new.spent ≡ self.old.spent }
-    {
-        self.images.reserve(1)?;
-        self.order.reserve(1)?;
-        self.packages.intern(alloc, name)?;
-        self.images.push(loaded).unwrap();
-        self.order.push(Kind::Image).unwrap();
-        Ok(())
-    }
-
     /// Adds the image of a file, which isn't refused. Without memory nothing changes.
     fn add_file(
         &mut self,
@@ -152,14 +131,14 @@ impl Session {
     ) -> Result<(), NoMemory>
         requires file { IsFileOf name.now bytes.now image }
         requires fine { why_refused self.old.here (events_of self.old) name.now (image_misfit image) ≡ None }
-        ensures added { OnOk result (events_of self.new ≡ events_of self.old ++ Loads (held_of_file bytes.now image) ∷ []) }
+        ensures added { OnOk result (events_of self.new ≡ events_of self.old ++ Loads (held_of bytes.now image) ∷ []) }
         ensures unchanged { OnErr result (events_of self.new ≡ events_of self.old) }
         ensures here { self.new.here ≡ self.old.here }
         ensures printed { self.new.printed ≡ self.old.printed }
         ensures spent { self.new.spent ≡ self.old.spent }
     {
         let package = indexed(alloc, image, identity(bytes))?;
-        self.add_image(alloc, name, package)
+        self.tables.add_image(alloc, name, package)
     }
 
     /// Loads the image of this name whose file the bytes are, and answers how many images are loaded then. After an
@@ -181,7 +160,7 @@ impl Session {
         let image = read(alloc, name, file)?;
         self.judge(alloc, name, &image)?;
         match self.add_file(alloc, name, file, image) {
-            Ok(()) => Ok(self.images.len() as u32),
+            Ok(()) => Ok(self.tables.images.len() as u32),
             Err(_) => Err(LoadFault::NoMemory),
         }
     }

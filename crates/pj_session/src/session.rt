@@ -1,19 +1,12 @@
 //! A session: what was added to Base, and what was printed.
 
-ghost use Rattle.std.specs.Prelude.{◌≡◌, [], ◌∷◌, ◌++◌, None, option_map, IfOk, OnOk, OnErr};
-ghost use Rattle.std.specs.Option.{option_copied};
+ghost use Rattle.std.specs.Prelude.{◌≡◌, [], IfOk};
 ghost use Rattle.pj_meaning.specs.Names.{main_name};
-ghost use Rattle.pj_session.specs.Lent.{thing_seen};
-ghost use Rattle.pj_session.specs.Merged.{own_event, package_content};
 ghost use Rattle.pj_session.specs.Seen.{events_of};
-ghost use Rattle.pj_session.specs.Things.{has_package, image_in, own_in};
+ghost use Rattle.pj_session.specs.Things.{has_package};
 
-use crate::own::{Kind, Own};
-use crate::package::Package;
-use crate::state::Session;
-use crate::thing::Thing;
-use pj_base::{ByteList, Names, NoMemory, Text};
-use sqlite_items::at as item_at;
+use crate::state::{Session, Tables};
+use pj_base::{ByteList, NoMemory, Text};
 use std::alloc::Global;
 
 impl Session {
@@ -25,11 +18,7 @@ impl Session {
     {
         Ok(Session {
             here: Text::from_str(alloc, here)?,
-            own: Names::new(alloc),
-            things: Vec::new(alloc),
-            packages: Names::new(alloc),
-            images: Vec::new(alloc),
-            order: Vec::new(alloc),
+            tables: Tables::new(alloc),
             printed: ByteList::new(alloc),
             spent: false,
         })
@@ -53,21 +42,11 @@ impl Session {
         Session::over_base(alloc, name)
     }
 
-    /// What a name of the module that runs is.
-    pub fn own(&self, name: &str) -> Option<Thing<'_>>
-        ensures { option_map thing_seen result ≡ own_in (events_of self.now) name.now }
+    /// What was added to Base.
+    pub fn tables(&self) -> &Tables
+        ensures { result.now ≡ self.now.tables }
     {
-        let at = self.own.find(name)?;
-        let own = item_at(self.things.as_slice(), at.0 as usize)?;
-        Some(own.thing())
-    }
-
-    /// The image of a package.
-    pub fn package(&self, name: &str) -> Option<&Package>
-        ensures { option_map package_content (option_copied result) ≡ image_in (events_of self.now) name.now }
-    {
-        let at = self.packages.find(name)?;
-        item_at(self.images.as_slice(), at.0 as usize)
+        &self.tables
     }
 
     /// Whether a module is there: Base, the one that runs, or an image's.
@@ -75,24 +54,7 @@ impl Session {
     pub fn has_package(&self, home: &str) -> bool
         ensures { result ≡ has_package self.now.here (events_of self.now) home.now }
     {
-        home == "Base" || home == self.here.as_str() || self.package(home).is_some()
-    }
-
-    /// Adds a thing of a new name to the module that runs. Without memory nothing changes.
-    pub fn add_own(&mut self, alloc: Global, name: &str, thing: Own) -> Result<(), NoMemory>
-        requires new { own_in (events_of self.old) name.now ≡ None }
-        ensures added { OnOk result (events_of self.new ≡ events_of self.old ++ own_event name.now thing ∷ []) }
-        ensures unchanged { OnErr result (events_of self.new ≡ events_of self.old) }
-        ensures here { self.new.here ≡ self.old.here }
-        ensures printed { self.new.printed ≡ self.old.printed }
-        ensures spent { self.new.spent ≡ self.old.spent }
-    {
-        self.things.reserve(1)?;
-        self.order.reserve(1)?;
-        self.own.intern(alloc, name)?;
-        self.things.push(thing).unwrap();
-        self.order.push(Kind::Own).unwrap();
-        Ok(())
+        home == "Base" || home == self.here.as_str() || self.tables.package(home).is_some()
     }
 
     /// What was printed and not yet taken away.

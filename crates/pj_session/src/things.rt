@@ -26,9 +26,9 @@ impl Session {
         ensures { option_map thing_seen result ≡ thing_in self.now.here (events_of self.now) home.now name.now }
     {
         if self.here.as_str() == home {
-            return self.own(name);
+            return self.tables.own(name);
         }
-        let package = self.package(home)?;
+        let package = self.tables.package(home)?;
         package.thing(name)
     }
 }

@@ -4,7 +4,7 @@ use Rattle.std.specs.Prelude.{option_map}
 use Rattle.std.specs.Option.{option_copied}
 use Rattle.pj_session.specs.Merged.{package_content}
 use Rattle.pj_session.proofs.Ordered.{image_found, image_not_found}
-use Rattle.pj_session.proofs.state.Session.package.Goals as goal
+use Rattle.pj_session.proofs.state.Tables.package.Goals as goal
 
 pub returns-in_err-at : goal.returns-in_err-at
 returns-in_err-at c =

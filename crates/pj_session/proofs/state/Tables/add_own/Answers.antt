@@ -3,7 +3,7 @@ use Rattle.std.proofs.Common.{◌≡◌, [], ◌∷◌, ◌++◌, arith}
 use Rattle.std.proofs.lemmas.Grind.{common_steps}
 use Rattle.pj_session.specs.declared.own.Kind.TheVariants as kind
 use Rattle.pj_session.proofs.Ordered.{merged_more, ordered_more, named_more}
-use Rattle.pj_session.proofs.state.Session.add_own.Goals as goal
+use Rattle.pj_session.proofs.state.Tables.add_own.Goals as goal
 
 pub invariant_of-self-2 : goal.invariant_of-self-2
 invariant_of-self-2 c =
@@ -14,6 +14,7 @@ invariant_of-self-2 c =
     record {
       ordered = rw (things, order, names) (ordered_more s.order.items s.own s.things.items s.images.items c.args.name.now c.args.thing s.ordered);
       named = s.named;
+      few = s.few;
     }
 
 pub returns-clause-added : goal.returns-clause-added

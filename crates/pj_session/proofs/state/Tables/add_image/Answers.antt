@@ -3,8 +3,8 @@ use Rattle.std.proofs.Common.{◌≡◌, [], ◌∷◌, ◌++◌, map, arith}
 use Rattle.std.proofs.lemmas.Grind.{common_steps}
 use Rattle.pj_session.specs.Merged.{image_name}
 use Rattle.pj_session.specs.declared.own.Kind.TheVariants as kind
-use Rattle.pj_session.proofs.Loading.{merged_image, ordered_image, named_image}
-use Rattle.pj_session.proofs.state.Session.add_image.Goals as goal
+use Rattle.pj_session.proofs.Loading.{merged_image, ordered_image, named_image, few_more}
+use Rattle.pj_session.proofs.state.Tables.add_image.Goals as goal
 
 pub invariant_of-self-2 : goal.invariant_of-self-2
 invariant_of-self-2 c =
@@ -16,6 +16,7 @@ invariant_of-self-2 c =
     record {
       ordered = rw (images, order) (ordered_image s.order.items s.own s.things.items s.images.items c.args.loaded s.ordered);
       named = rw images names;
+      few = rw images (few_more s.order.items s.own s.things.items s.images.items c.args.loaded s.ordered c.requires.room);
     }
 
 pub returns-clause-added : goal.returns-clause-added

@@ -4,7 +4,7 @@ use Rattle.std.specs.Prelude.{option_map}
 use Rattle.pj_session.specs.Lent.{thing_seen}
 use Rattle.pj_session.specs.Merged.{thing_in_own}
 use Rattle.pj_session.proofs.Ordered.{found, not_found}
-use Rattle.pj_session.proofs.state.Session.own.Goals as goal
+use Rattle.pj_session.proofs.state.Tables.own.Goals as goal
 
 pub returns-in_err-at : goal.returns-in_err-at
 returns-in_err-at c =
