@@ -36,3 +36,4 @@ pub mod SessionItems
 pub mod FarAsked
 pub mod OwnMore
 pub mod Used
+pub mod Numbered

@@ -21,7 +21,7 @@ use Rattle.pj_session.proofs.Texts.{bytes_eq-comm}
 abbrev pub own_at : List Own → ℕ → Option Thing
 own_at things at = option_map thing_in_own (slice_get things at)
 
-pos_cons : (p : Text → Bool) (x : Text) (xs : List Text) → position_or_len p (x ∷ xs) ≡ cond (p x) 0 (suc (position_or_len p xs))
+pub pos_cons : (p : Text → Bool) (x : Text) (xs : List Text) → position_or_len p (x ∷ xs) ≡ cond (p x) 0 (suc (position_or_len p xs))
 pos_cons p x xs = grind arith
 
 -- an own thing is found at the place of its name

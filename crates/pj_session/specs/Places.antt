@@ -1,5 +1,6 @@
 -- The names of the module that runs, of the images and of a content, in order, each with what it is: as an index has them.
-use Rattle.std.specs.Prelude.{List, [], ◌∷◌, ◌++◌, map, Some}
+use Rattle.std.specs.Prelude.{ℕ, suc, List, [], ◌∷◌, ◌++◌, map, Option, Some, option_map}
+use Rattle.pj_base.specs.Interned.{found_at}
 use Rattle.pj_meaning.specs.Tree.{Text}
 use Rattle.pj_meaning.specs.Content.{Content}
 use Rattle.pj_session.specs.Events.{Event, Defines, Binds, Loads}
@@ -25,6 +26,10 @@ images [] = []
 images (Defines f ps e ∷ es) = images es
 images (Binds x z ∷ es) = images es
 images (Loads held ∷ es) = (held.content.name, held.content) ∷ images es
+
+-- the number of the first image of a name, where images are counted from 1
+abbrev pub image_number : List Event → Text → Option ℕ
+image_number events name = option_map suc (found_at name (names_of (images events)))
 
 -- its functions, and then its consts and globals
 abbrev pub content_things : Content → Named Thing

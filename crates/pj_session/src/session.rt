@@ -1,9 +1,10 @@
 //! A session: what was added to Base, and what was printed.
 
-ghost use Rattle.std.specs.Prelude.{◌≡◌, [], IfOk};
+ghost use Rattle.std.specs.Prelude.{◌≡◌, [], is_some, IfOk};
 ghost use Rattle.pj_meaning.specs.Names.{main_name};
+ghost use Rattle.pj_session.specs.Places.{image_number};
 ghost use Rattle.pj_session.specs.Seen.{events_of};
-ghost use Rattle.pj_session.specs.Things.{has_package};
+ghost use Rattle.pj_session.specs.Things.{has_package, image_in};
 
 use crate::state::{Session, Tables};
 use pj_base::{ByteList, NoMemory, Text};
@@ -47,6 +48,16 @@ impl Session {
         ensures { result.now ≡ self.now.tables }
     {
         &self.tables
+    }
+
+    /// The number of the image of this name: images are counted from 1, in the order in which they were loaded. Base isn't an
+    /// image, so it isn't found.
+    pub fn loaded(&self, name: &str) -> Option<u32>
+        ensures number { result ≡ image_number (events_of self.now) name.now }
+        ensures there { is_some result ≡ is_some (image_in (events_of self.now) name.now) }
+    {
+        let at = self.tables.packages.find(name)?;
+        Some(at.0 as u32 + 1)
     }
 
     /// Whether a module is there: Base, the one that runs, or an image's.
