@@ -1,9 +1,11 @@
 //! How an item ends early.
 
+ghost use Rattle.std.specs.Prelude.{◌≡◌, false};
 ghost use Rattle.pj_meaning.specs.Names.{id};
 ghost use Rattle.pj_meaning.specs.Outcome.{ModuleNotLoaded, NoMethod, OfFunction, Undefined};
 ghost use Rattle.pj_session.specs.Events.{ints};
 ghost use Rattle.pj_session.specs.Ending.{Tells};
+ghost use Rattle.pj_session.specs.Spent.{spent_behind};
 
 use crate::error::ErrorValue;
 use pj_base::Text;
@@ -20,6 +22,16 @@ pub enum End {
     Trap,
     /// There was no memory.
     NoMemory,
+}
+
+/// Whether memory has run out.
+pub fn lacks_memory(ended: &Result<(), End>) -> bool
+    ensures { result ≡ spent_behind ended.now false }
+{
+    match ended {
+        Ok(()) | Err(End::Error(_)) | Err(End::Steps) | Err(End::Trap) => false,
+        Err(End::NoMemory) => true,
+    }
 }
 
 /// The end by a call of a function that has no method for so many integers.

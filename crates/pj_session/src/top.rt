@@ -1,6 +1,6 @@
 //! Items at the top level.
 
-ghost use Rattle.std.specs.Prelude.{◌≡◌, ◌++◌, true, false, Err, OnOk};
+ghost use Rattle.std.specs.Prelude.{◌≡◌, ◌++◌, true, Err, OnOk};
 ghost use Rattle.pj_meaning.specs.Tree.{Text};
 ghost use Rattle.pj_meaning.specs.Top.{top};
 ghost use Rattle.pj_plain.specs.Forms.{known_behind};
@@ -15,7 +15,7 @@ ghost use Rattle.pj_session.specs.declared.end.End.TheVariants as ends;
 ghost use Rattle.pj_session.specs.Tops.{Tops};
 ghost use Rattle.pj_session.specs.Uses.{counts_loaded};
 
-use crate::end::End;
+use crate::end::{End, lacks_memory};
 use crate::state::Session;
 use pj_plain::held::text;
 use pj_tree::TopItem;
@@ -26,16 +26,6 @@ pub fn form_laws()
     ensures a_script_item_is_evaluated { a_script_item_is_evaluated }
     ensures a_package_item_is_evaluated { a_package_item_is_evaluated }
 {}
-
-/// Whether memory has run out.
-fn lacks_memory(ended: &Result<(), End>) -> bool
-    ensures { result ≡ spent_behind ended.now false }
-{
-    match ended {
-        Ok(()) | Err(End::Error(_)) | Err(End::Steps) | Err(End::Trap) => false,
-        Err(End::NoMemory) => true,
-    }
-}
 
 impl Session {
     /// Evaluates an item in a session that isn't spent.

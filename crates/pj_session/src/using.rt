@@ -132,7 +132,6 @@ impl Session {
         ensures events { events_of self.new ≡ events_of self.old }
         ensures here { self.new.here ≡ self.old.here }
         ensures printed { self.new.printed ≡ self.old.printed }
-        ensures spent { self.new.spent ≡ self.old.spent }
         ensures proper { Proper result }
     {
         match self.start(alloc, name, left) {
@@ -142,8 +141,8 @@ impl Session {
         }
     }
 
-    /// Loads the image of a package from its file, if none of the name is loaded, and starts it, whether memory ran out
-    /// before or not. No file changes.
+    /// Loads the image of a package from its file, if none of the name is loaded, and starts it, in a session that isn't
+    /// spent. No file changes.
     fn use_package<D: Depot>(
         &mut self,
         alloc: Global,
