@@ -105,7 +105,7 @@ module _ (before : Session) (good : Good before.here (events_of before)) (files 
   ends_at : (e : Ending) → whole ≡ ends e (run s left) → (whole.ending ≡ e) × (s ≡ whole.last.state)
   ends_at e is = (ap (λ (w : Ended). w.ending) is, sym (ap (λ (w : Ended). w.last.state) is))
 
-  pub already : {A : Type 0} (done : A) → counts_loaded before.here (events_of before) name ≡ true → UsesAs name whole (Ok done) s s left
+  pub already : {A : Type 0} (done : A) → counts_loaded before.here (events_of before) name ≡ true → UsesAs whole (Ok done) s s left
   already done has =
       let is : whole ≡ at_end (run s left) = loaded_already s (readings files) name left (has_is before.here (events_of before) before.printed good name ∙ has) in
       (ap (λ (w : Ended). w.ending) is, sym (ap (λ (w : Ended). w.last.state) is), sym (ap (λ (w : Ended). w.last.left) is))
@@ -117,7 +117,7 @@ module _ (before : Session) (good : Good before.here (events_of before)) (files 
     wrong : (e : Ending) → read_fault (readings files name) name ≡ Some e → (whole.ending ≡ e) × (s ≡ whole.last.state)
     wrong e is = ends_at e (wrong_reading s (readings files) name left e none_there is)
 
-    pub unread : (A : Type 0) (after : ℕ) (fault : UsingFault) → Fetched files name (Err fault) → UsesAs {A = A} name whole (Err fault) s s after
+    pub unread : (A : Type 0) (after : ℕ) (fault : UsingFault) → Fetched files name (Err fault) → UsesAs {A = A} whole (Err fault) s s after
     unread A after (used.Missing file) h =
         let r : readings files name ≡ NoFile = ap (reading_of name) h.1 in
         let w = wrong (script.Absent (image_file name)) (rw r refl) in
@@ -140,7 +140,7 @@ module _ (before : Session) (good : Good before.here (events_of before)) (files 
           ends_at (script.Refused (image_file name) why)
           (refused_as s (readings files) name k.image left none_there (held_there k.image k.judged.read) k.judged.called k.judged.alone why (k.judged.refused good))
 
-      pub unloaded : (A : Type 0) (after : ℕ) (fault : UsingFault) → Unloaded before name bytes fault → UsesAs {A = A} name whole (Err fault) s s after
+      pub unloaded : (A : Type 0) (after : ℕ) (fault : UsingFault) → Unloaded before name bytes fault → UsesAs {A = A} whole (Err fault) s s after
       unloaded A after (used.Refused file (faults.Format k)) h =
           let r : readings files name ≡ Faulty k = ap (reading_of name) there ∙ h.1 in
           let w = wrong (script.Refused (image_file name) (script.Format k)) (rw r refl) in
@@ -208,7 +208,7 @@ module _ (before mid : Session) (name bytes : List ℕ) (gained : Gained before 
       same_output =
           printed_of mid.here (events_of mid) mid.printed (good_stays good) ∙ same_printed ∙ sym (printed_of before.here (events_of before) before.printed good)
 
-      from_mid : {A : Type 0} (e : Ended) (result : Result A UsingFault) (new : State) (after : ℕ) → IfDepotFailed result (λ file. ⊥) → UsesAs name e result (state_seen mid) new after → UsesAs name e result (state_seen before) new after
+      from_mid : {A : Type 0} (e : Ended) (result : Result A UsingFault) (new : State) (after : ℕ) → IfDepotFailed result (λ file. ⊥) → UsesAs e result (state_seen mid) new after → UsesAs e result (state_seen before) new after
       from_mid e (Ok done) new after read h = h
       from_mid e (Err (used.Ended (ends_as.Error told))) new after read h = h
       from_mid e (Err (used.Ended ends_as.Steps)) new after read h = h
@@ -221,17 +221,17 @@ module _ (before mid : Session) (name bytes : List ℕ) (gained : Gained before 
       from_mid e (Err used.NoMemory) new after read h = h ∙ same_output
 
       pub started : {A : Type 0} (result : Result A UsingFault) (new : State) (after : ℕ) → IfDepotFailed result (λ file. ⊥)
-          → (bytes_eq base_name name ≡ false → Good mid.here (events_of mid) → UsesAs name (start_image name (run (state_seen mid) left)) result (state_seen mid) new after)
-          → UsesAs name (use_from (readings files) name (run (state_seen before) left)) result (state_seen before) new after
+          → (bytes_eq base_name name ≡ false → Good mid.here (events_of mid) → UsesAs (start_image name (run (state_seen mid) left)) result (state_seen mid) new after)
+          → UsesAs (use_from (readings files) name (run (state_seen before) left)) result (state_seen before) new after
       started result new after read h =
-          subst (λ (e : Ended). UsesAs name e result (state_seen before) new after) (sym comes_to)
+          subst (λ (e : Ended). UsesAs e result (state_seen before) new after) (sym comes_to)
           (from_mid (start_image name (run (state_seen mid) left)) result new after read (h other_name (good_stays good)))
 
 -- where the depot tells its files
 
 abbrev UsedAs : (A : Type 0) → Option Files → Session → Text → ℕ → Result A UsingFault → State → ℕ → Type 0
 UsedAs A told before name left result new after =
-    IfSome told (λ files. Good before.here (events_of before) → UsesAs name (use_from (readings files) name (run (state_seen before) left)) result (state_seen before) new after)
+    IfSome told (λ files. Good before.here (events_of before) → UsesAs (use_from (readings files) name (run (state_seen before) left)) result (state_seen before) new after)
 
 pub already_told : (A : Type 0) (told : Option Files) (before : Session) (name : Text) (left : ℕ) (done : A) → counts_loaded before.here (events_of before) name ≡ true → UsedAs A told before name left (Ok done) (state_seen before) left
 already_told A None before name left done has = tt
@@ -240,19 +240,19 @@ already_told A (Some files) before name left done has = λ good. already before 
 pub unread_told : {A : Type 0} (told : Option Files) (before : Session) (name : Text) (left after : ℕ) (result : Result A UsingFault) (fault : UsingFault) → result ≡ Err fault → counts_loaded before.here (events_of before) name ≡ false → IfSome told (λ files. Fetched files name (Err fault)) → UsedAs A told before name left result (state_seen before) after
 unread_told None before name left after result fault is free h = tt
 unread_told {A} (Some files) before name left after result fault is free h = λ good.
-    subst (λ (r : Result A UsingFault). UsesAs name (use_from (readings files) name (run (state_seen before) left)) r (state_seen before) (state_seen before) after) (sym is) (unread before good files name left free A after fault h)
+    subst (λ (r : Result A UsingFault). UsesAs (use_from (readings files) name (run (state_seen before) left)) r (state_seen before) (state_seen before) after) (sym is) (unread before good files name left free A after fault h)
 
 pub unloaded_told : {A : Type 0} (told : Option Files) (before mid : Session) (name : Text) (left after : ℕ) (result : Result A UsingFault) (fault : UsingFault) (found : ImageFile) → result ≡ Err fault → counts_loaded before.here (events_of before) name ≡ false → IfSome told (λ files. Fetched files name (Ok found)) → Unloaded before name found.bytes.items fault
     → mid.here ≡ before.here → mid.printed ≡ before.printed → events_of mid ≡ events_of before → UsedAs A told before name left result (state_seen mid) after
 unloaded_told None before mid name left after result fault found is free there h same_here same_printed same_events = tt
 unloaded_told {A} (Some files) before mid name left after result fault found is free there h same_here same_printed same_events = λ good.
-    subst (λ (new : State). UsesAs name (use_from (readings files) name (run (state_seen before) left)) result (state_seen before) new after)
+    subst (λ (new : State). UsesAs (use_from (readings files) name (run (state_seen before) left)) result (state_seen before) new after)
     (same_state before.here mid.here (events_of before) (events_of mid) before.printed mid.printed same_here same_printed same_events)
-    (subst (λ (r : Result A UsingFault). UsesAs name (use_from (readings files) name (run (state_seen before) left)) r (state_seen before) (state_seen before) after) (sym is) (unloaded before good files name left free found.bytes.items there A after fault h))
+    (subst (λ (r : Result A UsingFault). UsesAs (use_from (readings files) name (run (state_seen before) left)) r (state_seen before) (state_seen before) after) (sym is) (unloaded before good files name left free found.bytes.items there A after fault h))
 
 pub started_told : (A : Type 0) (told : Option Files) (before mid : Session) (name : Text) (left after : ℕ) (result : Result A UsingFault) (new : State) (found : ImageFile) → counts_loaded before.here (events_of before) name ≡ false → IfSome told (λ files. Fetched files name (Ok found)) → Gained before name found.bytes.items mid
     → mid.here ≡ before.here → mid.printed ≡ before.printed → IfDepotFailed result (λ file. ⊥)
-    → (bytes_eq base_name name ≡ false → Good mid.here (events_of mid) → UsesAs name (start_image name (run (state_seen mid) left)) result (state_seen mid) new after)
+    → (bytes_eq base_name name ≡ false → Good mid.here (events_of mid) → UsesAs (start_image name (run (state_seen mid) left)) result (state_seen mid) new after)
     → UsedAs A told before name left result new after
 started_told A None before mid name left after result new found free there gained same_here same_printed read h = tt
 started_told A (Some files) before mid name left after result new found free there gained same_here same_printed read h = λ good.

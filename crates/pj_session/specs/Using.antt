@@ -1,5 +1,5 @@
 -- How `using` a package ends, beside what the meaning says.
-use Rattle.std.specs.Prelude.{◌≡◌, ◌≤◌, ℕ, ◌++◌, ◌⊎◌, Bool, ◌||◌, true, false, List, Option, Some, None, Result, Ok, Err, ⊤}
+use Rattle.std.specs.Prelude.{◌≡◌, ◌≤◌, ℕ, Bool, true, false, Option, Some, None, Result, Ok, Err, ⊤}
 use Rattle.pj_meaning.specs.Tree.{Text}
 use Rattle.pj_meaning.specs.State.{State}
 use Rattle.pj_meaning.specs.Script as script
@@ -28,17 +28,17 @@ RefusedFor file fault ending = (why : Refusal) × (refusal_of fault ≡ Some why
 
 -- The ending is the meaning's, and so are the state and the budget behind it. Where the depot failed, at the package's
 -- image, nothing has changed. Without memory nothing was printed.
-abbrev pub UsesAs : {A : Type 0} → Text → Ended → Result A UsingFault → State → State → ℕ → Type 0
-UsesAs name e (Ok done) old new left = (e.ending ≡ AtEnd) × (new ≡ e.last.state) × (left ≡ e.last.left)
-UsesAs name e (Err (used.Ended (ends.Error told))) old new left = (e.ending ≡ Uncaught (error_of told)) × (new ≡ e.last.state)
-UsesAs name e (Err (used.Ended ends.Steps)) old new left = (e.ending ≡ OutOfSteps) × (new ≡ e.last.state)
-UsesAs name e (Err (used.Ended ends.Trap)) old new left = ⊥
-UsesAs name e (Err (used.Ended ends.NoMemory)) old new left = ⊥
-UsesAs name e (Err (used.Refused file fault)) old new left = RefusedFor file fault e.ending × (new ≡ e.last.state)
-UsesAs name e (Err (used.Missing file)) old new left = (e.ending ≡ Absent file) × (new ≡ e.last.state)
-UsesAs name e (Err (used.TooLong file)) old new left = (e.ending ≡ TooLong file) × (new ≡ e.last.state)
-UsesAs name e (Err (used.DepotFailed file)) old new left = new ≡ old
-UsesAs name e (Err used.NoMemory) old new left = new.printed ≡ old.printed
+abbrev pub UsesAs : {A : Type 0} → Ended → Result A UsingFault → State → State → ℕ → Type 0
+UsesAs e (Ok done) old new left = (e.ending ≡ AtEnd) × (new ≡ e.last.state) × (left ≡ e.last.left)
+UsesAs e (Err (used.Ended (ends.Error told))) old new left = (e.ending ≡ Uncaught (error_of told)) × (new ≡ e.last.state)
+UsesAs e (Err (used.Ended ends.Steps)) old new left = (e.ending ≡ OutOfSteps) × (new ≡ e.last.state)
+UsesAs e (Err (used.Ended ends.Trap)) old new left = ⊥
+UsesAs e (Err (used.Ended ends.NoMemory)) old new left = ⊥
+UsesAs e (Err (used.Refused file fault)) old new left = RefusedFor file fault e.ending × (new ≡ e.last.state)
+UsesAs e (Err (used.Missing file)) old new left = (e.ending ≡ Absent file) × (new ≡ e.last.state)
+UsesAs e (Err (used.TooLong file)) old new left = (e.ending ≡ TooLong file) × (new ≡ e.last.state)
+UsesAs e (Err (used.DepotFailed file)) old new left = new ≡ old
+UsesAs e (Err used.NoMemory) old new left = new.printed ≡ old.printed
 
 -- this holds where the depot is said to have failed
 abbrev pub IfDepotFailed : {A : Type 0} → Result A UsingFault → (Text → Type 0) → Type 0

@@ -127,7 +127,7 @@ impl Session {
 
     /// Starts the image of this name, which isn't Base's.
     fn start_gained(&mut self, alloc: Global, name: &str, left: &mut u64) -> Result<(), UsingFault>
-        ensures uses { bytes_eq base_name name.now ≡ false → Good self.old.here (events_of self.old) → UsesAs name.now (start_image name.now (run (state_seen self.old) left.old)) result (state_seen self.old) (state_seen self.new) left.new }
+        ensures uses { bytes_eq base_name name.now ≡ false → Good self.old.here (events_of self.old) → UsesAs (start_image name.now (run (state_seen self.old) left.old)) result (state_seen self.old) (state_seen self.new) left.new }
         ensures read { IfDepotFailed result (λ file. ⊥) }
         ensures events { events_of self.new ≡ events_of self.old }
         ensures here { self.new.here ≡ self.old.here }
@@ -150,7 +150,7 @@ impl Session {
         depot: &mut D,
         left: &mut u64,
     ) -> Result<(), UsingFault>
-        ensures uses { IfSome (D.files depot.old) (λ files. Good self.old.here (events_of self.old) → UsesAs name.now (use_from (readings files) name.now (run (state_seen self.old) left.old)) result (state_seen self.old) (state_seen self.new) left.new) }
+        ensures uses { IfSome (D.files depot.old) (λ files. Good self.old.here (events_of self.old) → UsesAs (use_from (readings files) name.now (run (state_seen self.old) left.old)) result (state_seen self.old) (state_seen self.new) left.new) }
         ensures good { Good self.old.here (events_of self.old) → Good self.new.here (events_of self.new) }
         ensures loaded { OnOk result (counts_loaded self.new.here (events_of self.new) name.now ≡ true) }
         ensures kept { (other : Text) → counts_loaded self.old.here (events_of self.old) other ≡ true → counts_loaded self.new.here (events_of self.new) other ≡ true }
@@ -178,7 +178,7 @@ impl Session {
         depot: &mut D,
         left: &mut u64,
     ) -> Result<(), UsingFault>
-        ensures uses { IfSome (D.files depot.old) (λ files. Good self.old.here (events_of self.old) → UsesAs name.now (use_from (readings files) name.now (run (state_seen self.old) left.old)) result (state_seen self.old) (state_seen self.new) left.new) }
+        ensures uses { IfSome (D.files depot.old) (λ files. Good self.old.here (events_of self.old) → UsesAs (use_from (readings files) name.now (run (state_seen self.old) left.old)) result (state_seen self.old) (state_seen self.new) left.new) }
         ensures good { Good self.old.here (events_of self.old) → Good self.new.here (events_of self.new) }
         ensures loaded { OnOk result (counts_loaded self.new.here (events_of self.new) name.now ≡ true) }
         ensures kept { (other : Text) → counts_loaded self.old.here (events_of self.old) other ≡ true → counts_loaded self.new.here (events_of self.new) other ≡ true }
