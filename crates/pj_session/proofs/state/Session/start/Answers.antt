@@ -6,4 +6,4 @@ use Rattle.pj_session.proofs.state.Session.start.Goals as goal
 pub returns-clause-starts : goal.returns-clause-starts
 returns-clause-starts c =
     let s = c.args.self.now in
-    starts_as s.here (events_of s) s.printed c.args.name.now c.args.left.now c.call_init.result c.call_init.new.left c.call_init.ensures
+    starts_as s.here (events_of s) s.printed c.args.name.now c.args.left.now c.call_init-result.result c.call_init-result.new.left c.call_init-result.ensures
