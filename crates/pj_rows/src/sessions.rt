@@ -52,11 +52,17 @@ fn an_image_is_loaded_once(rt: HostRuntime) -> Result<(), Fail> {
     let image = image_of(&rt, rt.alloc(), "P", P)?;
     let again = Vec::from_slice(rt.alloc(), image.as_slice())?;
     let mut session = Session::new(rt.alloc())?;
+    assert_eq!(rt; session.loaded("P"), None);
     let first = load(&mut session, rt.alloc(), "P", image);
     assert_eq!(rt; first, Some(Ok(1)));
     let second = load(&mut session, rt.alloc(), "P", again);
     assert_eq!(rt; second, Some(Err(LoadFault::Loaded)));
-    assert_eq!(rt; session.images.len(), 1);
+    assert_eq!(rt; session.tables().images.len(), 1);
+    assert_eq!(rt; session.loaded("P"), Some(1));
+    assert_eq!(rt; session.loaded("Base"), None);
+    let mut left = 3;
+    assert!(rt; session.start(rt.alloc(), "P", &mut left).is_ok());
+    assert_eq!(rt; left, 3);
     Ok(())
 }
 
@@ -78,7 +84,9 @@ fn no_more_than_1024_images_are_loaded(rt: HostRuntime) -> Result<(), Fail> {
     assert_eq!(rt; full, Some(Err(LoadFault::Full)));
     let loaded = load(&mut session, rt.alloc(), "Q7", twice);
     assert_eq!(rt; loaded, Some(Err(LoadFault::Loaded)));
-    assert_eq!(rt; session.images.len(), 1024);
+    assert_eq!(rt; session.tables().images.len(), 1024);
+    assert_eq!(rt; session.loaded("Q7"), Some(8));
+    assert_eq!(rt; session.loaded("P"), None);
     Ok(())
 }
 
