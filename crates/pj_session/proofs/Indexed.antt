@@ -338,3 +338,6 @@ own_law es name = own_at es name ∙ found_in (own_things es) name
 
 pub image_law : an_image_is_in_its_place
 image_law es home = image_at es home ∙ found_in (images es) home
+
+pub merely_new : (i : Image) → ∥ Formed i ∥₁ → (place : ℕ) → place < length (names_in_image i) → has_text (slice_index_or (names_in_image i) place []) (take place (names_in_image i)) ≡ false
+merely_new i formed n lt = new_at (names_in_image i) n (plain.named_by i (merely_readable i formed).names).all lt

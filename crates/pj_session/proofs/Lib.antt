@@ -23,6 +23,7 @@ pub mod Plainly
 pub mod FromFiles
 pub mod Indexed
 pub mod Listed
+pub mod FirstPlaces
 pub mod Integers
 pub mod Topped
 pub mod Bound

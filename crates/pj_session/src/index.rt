@@ -1,6 +1,6 @@
 //! An index of what an image binds: its names, and for each function where its method stands.
 
-ghost use Rattle.std.specs.Prelude.{◌≡◌, ◌<◌, ℕ, List, Some, None, IfOk, length, option_map, option_and_then, slice_get, slice_index_or};
+ghost use Rattle.std.specs.Prelude.{◌≡◌, ◌<◌, ◌^◌, ℕ, List, Some, None, IfOk, length, option_map, option_and_then, slice_get, slice_index_or};
 ghost use Rattle.pj_parts.specs.declared.types.Value.{out-Value};
 ghost use Rattle.pj_image.specs.Formed.{Formed};
 ghost use Rattle.pj_base.specs.Interned.{found_at};
@@ -14,10 +14,11 @@ ghost use Rattle.pj_tree.specs.declared.tree.Stmt.{out-Stmt};
 ghost use Rattle.pj_tree.specs.declared.tree.TreeNode.{out-TreeNode};
 ghost use Rattle.pj_session.specs.Indexed.{statement_parts, block_parts, node_parts, is_of_place, parts_at, whole_of, noted, MethodList, names_in_image, thing_by_list};
 
+use crate::name_places::find_place;
 use crate::thing::{Code, Thing};
-use pj_base::{Names, NoMemory};
+use pj_base::NoMemory;
 use pj_image::Image;
-use pj_parts::{ShortText, Value};
+use pj_parts::Value;
 use pj_reloc::Entry;
 use pj_tree::{Expr, Stmt, Sym, TreeNode};
 use sqlite_items::at as item_at;
@@ -114,33 +115,6 @@ pub fn method_list(alloc: Global, image: &Image) -> Result<Vec<Option<usize>>, N
     Ok(list)
 }
 
-/// The string of a number, or the empty text where there is none.
-#[tactic(auto, using(crate::proofs::Listed::no_string))]
-fn string(strings: &[ShortText], number: u32) -> &str
-    ensures { result.now ≡ strings_in strings.now number }
-{
-    match item_at(strings, number as usize) {
-        Some(text) => text.as_str(),
-        None => "",
-    }
-}
-
-/// The names of an image's functions, and behind them those of its consts and globals.
-pub fn image_names(alloc: Global, image: &Image) -> Result<Names, NoMemory>
-    ensures { Formed image.now → IfOk result (λ names. names ≡ names_in_image image.now) }
-{
-    let count = image.functions.len().saturating_add(image.bindings.len());
-    let mut names = Names::with_room(alloc, count)?;
-    let strings = image.strings.as_slice();
-    for f in image.functions.as_slice() {
-        names.intern(alloc, string(strings, f.name))?;
-    }
-    for b in image.bindings.as_slice() {
-        names.intern(alloc, string(strings, b.name))?;
-    }
-    Ok(names)
-}
-
 /// The place of a method that is listed for a function, or none behind the end.
 #[tactic(auto, using(crate::proofs::Listed::past_end))]
 fn listed(methods: &[Option<usize>], place: usize) -> Option<usize>
@@ -190,24 +164,26 @@ fn thing_at<'a>(image: &'a Image, methods: &[Option<usize>], place: usize) -> Op
 /// What a name is, by these lists.
 fn found<'a>(
     image: &'a Image,
-    names: &Names,
+    places: &[u32],
     methods: &[Option<usize>],
     name: &str,
 ) -> Option<Thing<'a>>
-    ensures { option_map thing_seen result ≡ option_and_then (thing_by_list image.now methods.now) (found_at name.now names.now) }
+    requires few { length (names_in_image image.now) < 2 ^ 64 }
+    ensures { ∥ Formed image.now ∥₁ → option_map thing_seen result ≡ option_and_then (thing_by_list image.now methods.now) (found_at name.now (names_in_image image.now)) }
 {
-    let at = names.find(name)?;
-    thing_at(image, methods, at.0 as usize)
+    let place = find_place(image, places, name)?;
+    thing_at(image, methods, place)
 }
 
-/// What a name of an image is, where these are its names, and this is the list of its methods.
+/// What a name of an image is, where this is the list of its methods. The places are where names are looked for first.
 pub fn image_thing<'a>(
     image: &'a Image,
-    names: &Names,
+    places: &[u32],
     methods: &[Option<usize>],
     name: &str,
 ) -> Option<Thing<'a>>
-    ensures { names.now ≡ names_in_image image.now → MethodList image.now methods.now → ∥ Formed image.now ∥₁ → misfit image.now ≡ None → option_map thing_seen result ≡ thing_of (content_of image.now) name.now }
+    requires few { length (names_in_image image.now) < 2 ^ 64 }
+    ensures { MethodList image.now methods.now → ∥ Formed image.now ∥₁ → misfit image.now ≡ None → option_map thing_seen result ≡ thing_of (content_of image.now) name.now }
 {
-    found(image, names, methods, name)
+    found(image, places, methods, name)
 }

@@ -18,6 +18,7 @@ pub mod index;
 pub mod index_laws;
 pub mod item_rows;
 pub mod load;
+pub mod name_places;
 pub mod number;
 pub mod own;
 pub mod package;

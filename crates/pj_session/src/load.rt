@@ -12,7 +12,8 @@ ghost use Rattle.pj_session.specs.Seen.{events_of};
 ghost use Rattle.pj_session.specs.Loading.{Added, Reads, Refuses, Tells};
 ghost use Rattle.pj_session.specs.declared.load.LoadFault.{LoadFault};
 
-use crate::index::{image_names, method_list};
+use crate::index::method_list;
+use crate::name_places::place_slots;
 use crate::package::Package;
 use crate::state::Session;
 use pj_base::NoMemory;
@@ -60,18 +61,19 @@ fn identity(bytes: &[u8]) -> [u8; 32]
 }
 
 /// An image with its index.
+#[tactic(auto, using(crate::proofs::FirstPlaces::few_names))]
 fn indexed(alloc: Global, image: Image, identity: [u8; 32]) -> Result<Package, NoMemory>
     requires formed { Formed image }
     requires fits { image_misfit image ≡ None }
     ensures image { IfOk result (λ p. p.image ≡ image) }
     ensures identity { IfOk result (λ p. p.identity ≡ identity) }
 {
-    let names = image_names(alloc, &image)?;
+    let places = place_slots(alloc, &image)?;
     let methods = method_list(alloc, &image)?;
     Ok(Package {
         image,
         identity,
-        names,
+        places,
         methods,
     })
 }

@@ -1,11 +1,10 @@
 //! An image that was loaded.
 
-ghost use Rattle.std.specs.Prelude.{◌≡◌, None};
+ghost use Rattle.std.specs.Prelude.{◌≡◌, ◌<◌, ◌^◌, None, length};
 ghost use Rattle.pj_image.specs.Formed.{Formed};
 ghost use Rattle.pj_content.specs.Misfit.{misfit};
 ghost use Rattle.pj_session.specs.Indexed.{MethodList, names_in_image};
 
-use pj_base::Names;
 use pj_image::Image;
 
 /// An image that was loaded, and its identity, with an index: the names of its functions and behind them those of its
@@ -14,10 +13,10 @@ use pj_image::Image;
 pub struct Package {
     pub image: Image,
     pub identity: [u8; 32],
-    pub names: Names,
+    pub places: Vec<u32>,
     pub methods: Vec<Option<usize>>,
     ghost formed: { ∥ Formed image ∥₁ },
     ghost fits: { misfit image ≡ None },
-    ghost named: { names ≡ names_in_image image },
+    ghost few: { length (names_in_image image) < 2 ^ 64 },
     ghost listed: { MethodList image methods.items },
 }

@@ -16,7 +16,12 @@ impl Package {
     pub fn thing(&self, name: &str) -> Option<Thing<'_>>
         ensures { option_map thing_seen result ≡ thing_of (package_content self.now) name.now }
     {
-        image_thing(&self.image, &self.names, self.methods.as_slice(), name)
+        image_thing(
+            &self.image,
+            self.places.as_slice(),
+            self.methods.as_slice(),
+            name,
+        )
     }
 }
 
