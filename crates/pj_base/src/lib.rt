@@ -7,6 +7,7 @@ pub mod kinds;
 pub mod memory;
 pub mod names;
 pub mod numbers;
+mod short;
 pub mod text;
 
 pub use bytes::ByteList;

@@ -34,15 +34,6 @@ impl Names {
         }
     }
 
-    /// No names, with room for so many at once.
-    pub fn with_room(alloc: Global, count: usize) -> Result<Names, NoMemory>
-        ensures { IfOk result (λ n. n ≡ []) }
-    {
-        Ok(Names {
-            texts: IndexSet::with_capacity(alloc, count)?,
-        })
-    }
-
     /// How many names there are.
     pub fn len(&self) -> usize
         ensures { result ≡ length self.now }

@@ -13,14 +13,15 @@ use pj_making::bounds::small;
 use pj_making::definitions::{Method, method_of};
 use pj_making::statements::{for_of, no_lines, while_of};
 use pj_syntax::{ParamList, Path, Spot};
+use sqlite_items::Boxed;
 use std::alloc::Global;
 
 /// A `while` with its condition and its statements.
-fn while_line(condition: Node, body: Lines) -> Result<Line, NoMemory>
+fn while_line(alloc: Global, condition: Node, body: Lines) -> Result<Line, NoMemory>
     ensures { IfOk result (λ made. made ≡ while_of condition body) }
 {
     small(condition.nesting.max(body.nesting))?;
-    Ok(while_of(condition, body))
+    while_of(alloc, condition, body)
 }
 
 /// A `for` with its bounds and its statements.
@@ -46,34 +47,47 @@ fn method_with(path: Path, params: ParamList, body: Lines) -> Result<Method, NoM
 }
 
 /// An `if` ends without `else`.
-fn end_if(alloc: Global, condition: Node, lines: Lines, stack: Stack) -> Answer
+fn end_if(alloc: Global, condition: Boxed<Node>, lines: Lines, stack: Stack) -> Answer
     ensures { IfOk result (λ r. r ≡ close_block (Frame.Block (Opener.If condition) lines ∷ stack)) }
 {
-    let line = if_line(condition, lines, no_lines(alloc))?;
+    let line = if_line(alloc, condition.into_inner(), lines, no_lines(alloc))?;
     closed_line(alloc, line, stack)
 }
 
 /// An `if` ends with `else`.
-fn end_else(alloc: Global, condition: Node, before: Lines, lines: Lines, stack: Stack) -> Answer
+fn end_else(
+    alloc: Global,
+    condition: Boxed<Node>,
+    before: Lines,
+    lines: Lines,
+    stack: Stack,
+) -> Answer
     ensures { IfOk result (λ r. r ≡ close_block (Frame.Block (Opener.Else condition before) lines ∷ stack)) }
 {
-    let line = if_line(condition, before, lines)?;
+    let line = if_line(alloc, condition.into_inner(), before, lines)?;
     closed_line(alloc, line, stack)
 }
 
 /// A `while` ends.
-fn end_while(alloc: Global, condition: Node, lines: Lines, stack: Stack) -> Answer
+fn end_while(alloc: Global, condition: Boxed<Node>, lines: Lines, stack: Stack) -> Answer
     ensures { IfOk result (λ r. r ≡ close_block (Frame.Block (Opener.While condition) lines ∷ stack)) }
 {
-    let line = while_line(condition, lines)?;
+    let line = while_line(alloc, condition.into_inner(), lines)?;
     closed_line(alloc, line, stack)
 }
 
 /// A `for` ends.
-fn end_for(alloc: Global, name: Spot, first: Node, last: Node, lines: Lines, stack: Stack) -> Answer
+fn end_for(
+    alloc: Global,
+    name: Spot,
+    first: Boxed<Node>,
+    last: Boxed<Node>,
+    lines: Lines,
+    stack: Stack,
+) -> Answer
     ensures { IfOk result (λ r. r ≡ close_block (Frame.Block (Opener.For name first last) lines ∷ stack)) }
 {
-    let line = for_line(alloc, name, first, last, lines)?;
+    let line = for_line(alloc, name, first.into_inner(), last.into_inner(), lines)?;
     closed_line(alloc, line, stack)
 }
 

@@ -7,6 +7,7 @@ use pj_frames::reading::{Answer, let_go, over};
 use pj_frames::stack::Stack;
 use pj_grammar::{Entries, Frame, Lines, Mode, Node, Opener, Purpose, Root};
 use pj_making::statements::no_lines;
+use sqlite_items::Boxed;
 use std::alloc::Global;
 
 /// `else` in a block.
@@ -36,7 +37,7 @@ pub fn open_else(alloc: Global, mut stack: Stack) -> Answer
 }
 
 /// A condition begins behind `elseif`, before which a condition and its statements stand.
-fn open_branch(condition: Node, lines: Lines, mut stack: Stack) -> Answer
+fn open_branch(condition: Boxed<Node>, lines: Lines, mut stack: Stack) -> Answer
     ensures { IfOk result (λ r. r ≡ state_at Mode.Want (Frame.Hole Purpose.If ∷ Frame.Branch condition lines ∷ stack)) }
 {
     stack.push(Frame::Branch(condition, lines))?;

@@ -9,6 +9,7 @@ use pj_frames::stack::Stack;
 use pj_grammar::{Line, Mode};
 use pj_lex::{Sign, TokenKind};
 use pj_words::Word;
+use sqlite_items::Boxed;
 use std::alloc::Global;
 
 /// What ends a list of statements or items.
@@ -43,7 +44,7 @@ pub fn is_close(kind: &TokenKind) -> bool
 
 /// `)` behind what `eval` evaluates.
 #[tactic(auto, using(crate::proofs::Payloads::close_on, crate::proofs::Payloads::close_off))]
-fn after_payload(line: Line, stack: Stack, kind: &TokenKind) -> Option<Reading>
+fn after_payload(line: Boxed<Line>, stack: Stack, kind: &TokenKind) -> Option<Reading>
     ensures { result ≡ after_end_at (Mode.PayloadEnd line) stack kind.now }
 {
     if is_close(kind) {

@@ -19,6 +19,7 @@ use pj_making::definitions::{
 use pj_making::items::method_defined;
 use pj_making::statements::value_of;
 use pj_syntax::Spot;
+use sqlite_items::Boxed;
 use std::alloc::Global;
 
 /// `@eval` of what is evaluated.
@@ -41,7 +42,7 @@ fn evaluated_in(
 {
     let line = eval_line(alloc, owner, y)?;
     if quoted {
-        Ok(at(Mode::PayloadEnd(line), stack))
+        Ok(at(Mode::PayloadEnd(Boxed::new(alloc, line)?), stack))
     } else {
         closed_line(alloc, line, stack)
     }
@@ -121,7 +122,7 @@ fn small_assign(target: &Target, nesting: usize) -> Result<(), NoMemory>
     ensures { OnOk result ((1 + holder_nesting target.now ≤ most_nesting) × (nesting ≤ most_nesting)) }
 {
     match target {
-        Target::Field(holder, _) => small(holder.nesting.saturating_add(1).max(nesting)),
+        Target::Field(holder, _) => small(holder.get().nesting.saturating_add(1).max(nesting)),
         Target::Local(_) | Target::Global(_, _) => small(nesting),
     }
 }

@@ -13,6 +13,7 @@ use pj_grammar::{Entries, Frame, Line, Lines, Mode, Node, Opener, Root};
 use pj_making::bounds::small;
 use pj_making::items::{Entry, entry_after, run_of};
 use pj_making::statements::{if_of, line_after, one_line};
+use sqlite_items::Boxed;
 use std::alloc::Global;
 
 /// A statement that ends, and the frames around it.
@@ -53,11 +54,11 @@ fn place_line(line: Line, mut stack: Stack) -> Answer
 }
 
 /// An `if` with its condition and its branches.
-pub fn if_line(condition: Node, holds: Lines, fails: Lines) -> Result<Line, NoMemory>
+pub fn if_line(alloc: Global, condition: Node, holds: Lines, fails: Lines) -> Result<Line, NoMemory>
     ensures { IfOk result (λ made. made ≡ if_of condition holds fails) }
 {
     small(condition.nesting.max(holds.nesting.max(fails.nesting)))?;
-    Ok(if_of(condition, holds, fails))
+    if_of(alloc, condition, holds, fails)
 }
 
 /// The `if` before an `elseif` ends with what stands behind that.
@@ -65,13 +66,13 @@ fn end_branch(alloc: Global, condition: Node, before: Lines, line: Line) -> Resu
     ensures { IfOk result (λ made. made ≡ if_of condition before (one_line line)) }
 {
     let rest = one_line(alloc, line)?;
-    if_line(condition, before, rest)
+    if_line(alloc, condition, before, rest)
 }
 
 /// A branch before `elseif`, and the frames below it.
 #[derive(Drop)]
 pub struct Branching {
-    pub condition: Node,
+    pub condition: Boxed<Node>,
     pub before: Lines,
     pub stack: Stack,
 }
@@ -114,7 +115,7 @@ fn leave(alloc: Global, line: Line, branch: Branching) -> Result<Standing, NoMem
         before,
         stack,
     } = branch;
-    let line = end_branch(alloc, condition, before, line)?;
+    let line = end_branch(alloc, condition.into_inner(), before, line)?;
     Ok(Standing { line, stack })
 }
 
@@ -144,18 +145,23 @@ pub fn closed_line(alloc: Global, line: Line, stack: Stack) -> Answer
     place_line(line, stack)
 }
 
+/// An item ends among items.
+fn entry_in_items(root: Root, entries: Entries, entry: Entry, stack: Stack) -> Answer
+    ensures { IfOk result (λ r. r ≡ closed_entry entry (Frame.Items root entries ∷ stack)) }
+{
+    let entries = entry_after(entries, entry)?;
+    over(Mode::Closed, Frame::Items(root, entries), stack)
+}
+
 /// An item ends.
 pub fn closed_entry(entry: Entry, mut stack: Stack) -> Answer
     ensures { IfOk result (λ r. r ≡ closed_entry entry stack) }
 {
     let Some(frame) = stack.pop() else {
-        return Ok(None);
+        return let_go(entry);
     };
     match frame {
-        Frame::Items(root, entries) => {
-            let entries = entry_after(entries, entry)?;
-            over(Mode::Closed, Frame::Items(root, entries), stack)
-        }
-        other => let_go(other),
+        Frame::Items(root, entries) => entry_in_items(root, entries, entry, stack),
+        other => let_go((other, entry)),
     }
 }

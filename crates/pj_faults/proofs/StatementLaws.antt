@@ -180,3 +180,15 @@ run-parts modules x =
     first-append (f.crowded (looped_by [] (statement_of x))) (f.statement_faults modules (names_of (looped_by [] (statement_of x))) false false [] (statement_of x))
 
 pub ruleset statement_rules = (small_rules, block-none, block-snoc, evaluated-Def, evaluated-Set, evaluated-Value, method-parts, run-parts, cut_while, cut_for, statement-Value, statement-Set, statement-SetField, statement-Global, statement-Return, statement-Break, statement-Continue, statement-If, statement-While, statement-For, statement-Eval)
+
+pub run-Value : (modules : List Text) (v : Expr) → run_first modules (s.Value v) ≡ value_first [] [] v
+unfolding run_first value_first first Rattle.pj_faults.specs.Sorted.sorted with_names
+run-Value modules v = ap (λ t. first (f.run_faults modules t)) (l.statement_of-Value v)
+
+pub run-Set : (modules : List Text) (x : Spot) (v : Expr) → run_first modules (s.Set x v) ≡ sooner (bound_first modules x) (value_first [] [] v)
+unfolding run_first bound_first value_first first sooner Rattle.pj_faults.specs.Sorted.sorted is_among with_names
+run-Set modules x v =
+    ap (λ t. first (f.run_faults modules t)) (l.statement_of-Set x v)
+    ∙ first-append (f.bound modules x) (f.value_faults [] [] (value_of v))
+
+pub ruleset plain_runs = (run-Value, run-Set)

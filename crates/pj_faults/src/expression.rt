@@ -12,6 +12,9 @@ use sqlite_items::at;
 fn is_unseen(names: &NameSet, loops: &NameSet, text: &str) -> bool
     ensures { result ≡ not (is_among text.now names.now) && is_among text.now loops.now }
 {
+    if loops.len() == 0 {
+        return false;
+    }
     !names.contains(text) && loops.contains(text)
 }
 
@@ -53,7 +56,7 @@ pub fn value_fault(names: &NameSet, loops: &NameSet, e: &Expr) -> Option<Fault>
         Expr::Name(path) => read_fault(names, loops, path),
         Expr::Field(of, _) => value_fault(names, loops, of.get()),
         Expr::Call(path, arguments) => {
-            let read = read_fault(names, loops, path);
+            let read = read_fault(names, loops, path.get());
             let inner = arguments_fault(names, loops, arguments.as_slice());
             sooner(read, sooner(many_fault(arguments.as_slice()), inner))
         }

@@ -38,7 +38,7 @@ fn path_place(path: &Path) -> usize
 {
     match path {
         Path::Bare(x) => x.at,
-        Path::Of(module, _) => module.at,
+        Path::Of(module, _) => module.get().at,
     }
 }
 
@@ -54,7 +54,13 @@ fn types_fault(types: &[Path]) -> Option<Fault>
 }
 
 #[tactic(auto, using(crate::proofs::ItemLaws::item_rules))]
-fn item_fault(alloc: Global, modules: &NameSet, item: &Item) -> Result<Option<Fault>, NoMemory>
+fn item_fault(
+    alloc: Global,
+    modules: &NameSet,
+    none: &NameSet,
+    item: &Item,
+) -> Result<Option<Fault>, NoMemory>
+    requires { none.now ≡ [] }
     ensures { IfOk result (λ found. found ≡ item_first modules.now item.now) }
 {
     match item {
@@ -70,7 +76,7 @@ fn item_fault(alloc: Global, modules: &NameSet, item: &Item) -> Result<Option<Fa
             Ok(sooner(bound_fault(modules, name), alone_fault(alloc, value)))
         }
         Item::Directive { types, .. } => Ok(types_fault(types.as_slice())),
-        Item::Run(s) => run_fault(alloc, modules, s),
+        Item::Run(s) => run_fault(alloc, modules, none, s),
     }
 }
 
@@ -78,9 +84,10 @@ fn item_fault(alloc: Global, modules: &NameSet, item: &Item) -> Result<Option<Fa
 fn items_fault(alloc: Global, modules: &NameSet, items: &[Item]) -> Result<Option<Fault>, NoMemory>
     ensures { IfOk result (λ found. found ≡ items_first modules.now items.now) }
 {
+    let none = NameSet::new(alloc);
     let mut found = None;
     for item in items {
-        found = sooner(found, item_fault(alloc, modules, item)?);
+        found = sooner(found, item_fault(alloc, modules, &none, item)?);
     }
     Ok(found)
 }

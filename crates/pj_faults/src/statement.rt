@@ -154,20 +154,20 @@ fn statement_fault(
         Stmt::Value(e) => Ok(value_fault(names, loops, e)),
         Stmt::Set(x, e) => Ok(sooner(bound_fault(modules, x), value_fault(names, loops, e))),
         Stmt::SetField(of, _, e) => Ok(two_faults(names, loops, of.get(), e.get())),
-        Stmt::Global(place, x, e) => Ok(global_fault(modules, names, loops, *place, x, e)),
+        Stmt::Global(place, x, e) => Ok(global_fault(modules, names, loops, *place, x, e.get())),
         Stmt::Return(place, value) => {
             Ok(return_fault(names, loops, within.in_body, *place, value))
         }
         Stmt::Break(place) => Ok(when(!within.in_loop, ScopeKind::Outside, *place)),
         Stmt::Continue(place) => Ok(when(!within.in_loop, ScopeKind::Outside, *place)),
         Stmt::If(test, chosen, other) => {
-            let test = value_fault(names, loops, test);
+            let test = value_fault(names, loops, test.get());
             let chosen = block_fault(alloc, modules, loops, within, names, chosen.as_slice())?;
             let other = block_fault(alloc, modules, loops, within, names, other.as_slice())?;
             Ok(sooner(test, sooner(chosen, other)))
         }
         Stmt::While(test, block) => {
-            let test = value_fault(names, loops, test);
+            let test = value_fault(names, loops, test.get());
             let block = block.as_slice();
             let inner = while_fault(alloc, modules, loops, within, names, block)?;
             Ok(sooner(test, inner))
@@ -227,7 +227,15 @@ pub fn alone_fault(alloc: Global, e: &Expr) -> Option<Fault>
     ensures { result ≡ value_first [] [] e.now }
 {
     let none = NameSet::new(alloc);
-    value_fault(&none, &none, e)
+    bare_fault(&none, e)
+}
+
+/// The same, with a set that has no names.
+fn bare_fault(none: &NameSet, e: &Expr) -> Option<Fault>
+    requires { none.now ≡ [] }
+    ensures { result ≡ value_first [] [] e.now }
+{
+    value_fault(none, none, e)
 }
 
 #[tactic(auto, using(crate::proofs::StatementLaws::small_rules))]
@@ -267,9 +275,9 @@ pub fn method_fault(
     Ok(sooner(head, sooner(crowded, inner)))
 }
 
-/// The fault that counts in a statement at top level.
+/// The fault that counts in a statement at top level, which may introduce names.
 #[tactic(auto, using(crate::proofs::StatementLaws::statement_rules))]
-pub fn run_fault(alloc: Global, modules: &NameSet, s: &Stmt) -> Result<Option<Fault>, NoMemory>
+fn unit_fault(alloc: Global, modules: &NameSet, s: &Stmt) -> Result<Option<Fault>, NoMemory>
     ensures { IfOk result (λ found. found ≡ run_first modules.now s.now) }
 {
     let mut unit = unit_of_run(alloc, s)?;
@@ -287,4 +295,23 @@ pub fn run_fault(alloc: Global, modules: &NameSet, s: &Stmt) -> Result<Option<Fa
         s,
     )?;
     Ok(sooner(crowded, inner))
+}
+
+/// The fault that counts in a statement at top level. Most are expressions and assignments, which introduce no names, as `none`
+/// has none.
+#[tactic(auto, using(crate::proofs::StatementLaws::plain_runs))]
+pub fn run_fault(
+    alloc: Global,
+    modules: &NameSet,
+    none: &NameSet,
+    s: &Stmt,
+) -> Result<Option<Fault>, NoMemory>
+    requires { none.now ≡ [] }
+    ensures { IfOk result (λ found. found ≡ run_first modules.now s.now) }
+{
+    match s {
+        Stmt::Value(e) => Ok(bare_fault(none, e)),
+        Stmt::Set(x, e) => Ok(sooner(bound_fault(modules, x), bare_fault(none, e))),
+        _ => unit_fault(alloc, modules, s),
+    }
 }

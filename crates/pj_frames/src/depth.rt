@@ -4,9 +4,9 @@ ghost use Rattle.pj_grammar.specs.Need.{Depth, assign_depth, deeper, form_nodes,
 ghost use Rattle.pj_grammar.specs.Makers.{infix_height, target_value};
 ghost use Rattle.pj_frames.specs.Stacked.{capped, reach_of};
 
-use pj_grammar::{Form, Frame, Given, Opener, Operator, Purpose, Target};
+use pj_grammar::{Form, Frame, Given, Lines, Node, Opener, Operator, Purpose, Target};
 use pj_lex::Sign;
-use pj_syntax::{Path, PathList};
+use sqlite_items::Boxed;
 
 /// What frames add: how many nodes stand above what is read next, and how deep what was read before nests.
 #[derive(Clone, Copy)]
@@ -54,7 +54,7 @@ fn holder_nesting(target: &Target) -> usize
     ensures { result ≡ holder_nesting target.now }
 {
     match target {
-        Target::Field(holder, _) => holder.nesting,
+        Target::Field(holder, _) => holder.get().nesting,
         Target::Local(_) | Target::Global(_, _) => 0,
     }
 }
@@ -65,7 +65,7 @@ fn value_nesting(target: &Target) -> usize
     ensures { result ≡ capped (target_value target.now).nesting }
 {
     match target {
-        Target::Field(holder, _) => plus(1, holder.nesting),
+        Target::Field(holder, _) => plus(1, holder.get().nesting),
         Target::Local(_) | Target::Global(_, _) => 1,
     }
 }
@@ -103,7 +103,7 @@ fn purpose_depth(purpose: &Purpose, reach: Reach) -> Reach
             deeper(1, 0, reach)
         }
         Purpose::Assign(target, operator) => assign_depth(target, operator, reach),
-        Purpose::To(_, from) => deeper(1, plus(1, from.nesting), reach),
+        Purpose::To(_, from) => deeper(1, plus(1, from.get().nesting), reach),
         Purpose::Const(_) => reach,
         Purpose::Short(_, _) => deeper(3, 0, reach),
     }
@@ -114,15 +114,22 @@ fn opener_depth(opener: &Opener, lines: usize, reach: Reach) -> Reach
     ensures { (d : Depth) → reach ≡ reach_of d → result ≡ reach_of (opener_depth opener.now lines d) }
 {
     match opener {
-        Opener::If(c) | Opener::While(c) => deeper(1, plus(1, greater(c.nesting, lines)), reach),
+        Opener::If(c) | Opener::While(c) => deeper(
+            1,
+            plus(1, greater(c.get().nesting, lines)),
+            reach,
+        ),
         Opener::Else(c, before) => deeper(
             1,
-            plus(1, greater(c.nesting, greater(before.nesting, lines))),
+            plus(1, greater(c.get().nesting, greater(before.nesting, lines))),
             reach,
         ),
         Opener::For(_, from, to) => deeper(
             1,
-            plus(1, greater(greater(from.nesting, to.nesting), lines)),
+            plus(
+                1,
+                greater(greater(from.get().nesting, to.get().nesting), lines),
+            ),
             reach,
         ),
         Opener::Function(_, _) => deeper(2, plus(2, lines), reach),
@@ -139,6 +146,22 @@ fn form_nodes(form: Form) -> usize
     }
 }
 
+/// A condition more, whose second branch is read next.
+fn else_depth(condition: &Boxed<Node>, holds: &Boxed<Node>, reach: Reach) -> Reach
+    ensures { (d : Depth) → reach ≡ reach_of d → result ≡ reach_of (frame_depth (Frame.Else condition.now holds.now) d) }
+{
+    let nesting = greater(condition.get().nesting, holds.get().nesting);
+    deeper(1, plus(1, nesting), reach)
+}
+
+/// A branch before `elseif` more.
+fn branch_depth(condition: &Boxed<Node>, lines: &Lines, reach: Reach) -> Reach
+    ensures { (d : Depth) → reach ≡ reach_of d → result ≡ reach_of (frame_depth (Frame.Branch condition.now lines.now) d) }
+{
+    let nesting = greater(condition.get().nesting, lines.nesting);
+    deeper(1, plus(1, nesting), reach)
+}
+
 /// A frame more.
 pub fn frame_depth(frame: &Frame, reach: Reach) -> Reach
     ensures { (d : Depth) → reach ≡ reach_of d → result ≡ reach_of (frame_depth frame.now d) }
@@ -152,7 +175,7 @@ pub fn frame_depth(frame: &Frame, reach: Reach) -> Reach
             deeper(height, plus(height, left.nesting), reach)
         }
         Frame::Then(c) => deeper(1, plus(1, c.nesting), reach),
-        Frame::Else(c, first) => deeper(1, plus(1, greater(c.nesting, first.nesting)), reach),
+        Frame::Else(c, first) => else_depth(c, first, reach),
         Frame::Call(_, given) => deeper(1, plus(1, given_nesting(given)), reach),
         Frame::Signature(form, _, _) => deeper(form_nodes(*form), 0, reach),
         Frame::TypeOf(_, _)
@@ -162,7 +185,7 @@ pub fn frame_depth(frame: &Frame, reach: Reach) -> Reach
         | Frame::Types(_, _) => reach,
         Frame::Hole(purpose) => purpose_depth(purpose, reach),
         Frame::Block(opener, lines) => opener_depth(opener, lines.nesting, reach),
-        Frame::Branch(c, lines) => { deeper(1, plus(1, greater(c.nesting, lines.nesting)), reach) }
+        Frame::Branch(c, lines) => branch_depth(c, lines, reach),
         Frame::Items(_, entries) => deeper(0, entries.nesting, reach),
     }
 }

@@ -41,7 +41,7 @@ fn head_nesting(head: &Head, layers: &[Layer]) -> usize
 {
     match head {
         Head::Name(_) | Head::Member(_, _) | Head::Operator(_, _) => 1,
-        Head::Place(e, _) => place_nesting(e, layers),
+        Head::Place(e, _) => place_nesting(e.get(), layers),
         Head::Call(f, paths) => {
             if lacks_paths(f, paths) {
                 3
@@ -93,8 +93,8 @@ fn mode_nesting(mode: &Mode, layers: &[Layer]) -> usize
         Mode::Payload | Mode::EvalName(_) | Mode::Return(_) => 2,
         Mode::GlobalName(_) | Mode::GlobalAssign(_, _) | Mode::LoopName | Mode::LoopIn(_) => 2,
         Mode::EvalColon | Mode::EvalOpen => 3,
-        Mode::PayloadEnd(line) => line.nesting,
-        Mode::EvalEnd(line) => line.nesting,
+        Mode::PayloadEnd(line) => line.get().nesting,
+        Mode::EvalEnd(line) => line.get().nesting,
         _ => 1,
     }
 }

@@ -57,7 +57,11 @@ pub fn over(mode: Mode, frame: Frame, mut stack: Stack) -> Answer
 pub fn guarded(holds: bool, mode: Mode, stack: Stack) -> Option<Reading>
     ensures { result ≡ guarded holds (state_at mode stack) }
 {
-    if holds { at(mode, stack) } else { None }
+    if holds {
+        at(mode, stack)
+    } else {
+        gone((mode, stack))
+    }
 }
 
 /// A mode over a frame more, where something holds.
@@ -67,7 +71,7 @@ pub fn guarded_over(holds: bool, mode: Mode, frame: Frame, stack: Stack) -> Answ
     if holds {
         over(mode, frame, stack)
     } else {
-        Ok(None)
+        let_go((mode, (frame, stack)))
     }
 }
 

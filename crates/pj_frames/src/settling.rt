@@ -12,6 +12,7 @@ use pj_grammar::{Frame, Head, Level, Node, Operator};
 use pj_making::bounds::small;
 use pj_making::expressions::{conditional_of, infix_of, prefix_of};
 use pj_making::heads::node;
+use sqlite_items::Boxed;
 use std::alloc::Global;
 
 /// An operand over the frames.
@@ -79,15 +80,38 @@ fn end_infix(
 /// A condition ends.
 fn end_else(
     alloc: Global,
-    condition: Node,
-    holds: Node,
+    condition: Boxed<Node>,
+    holds: Boxed<Node>,
     head: Head,
     stack: Stack,
 ) -> Result<Operand, NoMemory>
     ensures { IfOk result (λ o. settled_of o ≡ ended head (Frame.Else condition holds ∷ stack)) }
 {
-    let head = Head::Plain(chosen(alloc, condition, holds, head)?);
+    let made = chosen(alloc, condition.into_inner(), holds.into_inner(), head)?;
+    let head = Head::Plain(made);
     Ok(Operand { head, stack })
+}
+
+/// No operator ends, where another frame stands on top.
+fn keep(frame: Frame, head: Head, mut stack: Stack) -> Result<Operand, NoMemory>
+    ensures { IfOk result (λ o. settled_of o ≡ record { head = head; frames = frame ∷ stack }) }
+{
+    stack.push(frame)?;
+    Ok(Operand { head, stack })
+}
+
+/// The operator of a frame ends, over those below it.
+fn end_frame(alloc: Global, frame: Frame, head: Head, stack: Stack) -> Result<Operand, NoMemory>
+    ensures { IfOk result (λ o. settled_of o ≡ ended head (frame ∷ stack)) }
+{
+    match frame {
+        Frame::Prefix(operator) => end_prefix(alloc, operator, head, stack),
+        Frame::Infix(level, left, operator) => {
+            end_infix(alloc, level, left, operator, head, stack)
+        }
+        Frame::Else(condition, holds) => end_else(alloc, condition, holds, head, stack),
+        other => keep(other, head, stack),
+    }
 }
 
 /// The operator on top ends.
@@ -96,15 +120,7 @@ fn end_top(alloc: Global, operand: Operand) -> Result<Operand, NoMemory>
 {
     let Operand { head, mut stack } = operand;
     match stack.pop() {
-        Some(Frame::Prefix(operator)) => end_prefix(alloc, operator, head, stack),
-        Some(Frame::Infix(level, left, operator)) => end_infix(
-            alloc, level, left, operator, head, stack,
-        ),
-        Some(Frame::Else(condition, holds)) => end_else(alloc, condition, holds, head, stack),
-        Some(frame) => {
-            stack.push(frame)?;
-            Ok(Operand { head, stack })
-        }
+        Some(frame) => end_frame(alloc, frame, head, stack),
         None => Ok(Operand { head, stack }),
     }
 }

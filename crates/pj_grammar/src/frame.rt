@@ -1,12 +1,13 @@
 use crate::level::{Level, Operator};
 use crate::node::{Arguments, Entries, Lines, Node};
 use pj_syntax::{ParamList, Path, PathList, Spot, SpotList};
+use sqlite_items::Boxed;
 
 /// What an assignment sets: a name, a field of a value, or a global behind the word `global` at a place.
 #[derive(Drop)]
 pub enum Target {
     Local(Spot),
-    Field(Node, Spot),
+    Field(Boxed<Node>, Spot),
     Global(usize, Spot),
 }
 
@@ -21,7 +22,7 @@ pub enum Purpose {
     If,
     While,
     From(Spot),
-    To(Spot, Node),
+    To(Spot, Boxed<Node>),
     Const(Spot),
     /// the body of a short definition
     Short(Path, ParamList),
@@ -37,10 +38,10 @@ pub enum Form {
 /// What a block of statements is for. `Else` has the statements of the other branch.
 #[derive(Drop)]
 pub enum Opener {
-    If(Node),
-    Else(Node, Lines),
-    While(Node),
-    For(Spot, Node, Node),
+    If(Boxed<Node>),
+    Else(Boxed<Node>, Lines),
+    While(Boxed<Node>),
+    For(Spot, Boxed<Node>, Boxed<Node>),
     Function(Path, ParamList),
 }
 
@@ -76,7 +77,7 @@ pub enum Frame {
     /// `c ?`, before the first branch
     Then(Node),
     /// `c ? a :`, before the second branch
-    Else(Node, Node),
+    Else(Boxed<Node>, Boxed<Node>),
     /// `(` at a place. The flag says that it may open the types of a directive.
     Group(usize, bool),
     /// a call, at an argument
@@ -100,7 +101,7 @@ pub enum Frame {
     /// the statements of a block
     Block(Opener, Lines),
     /// the condition and the statements of a branch before `elseif`
-    Branch(Node, Lines),
+    Branch(Boxed<Node>, Lines),
     /// what `@eval`, with or without a module, or `eval(:(`, with the flag, evaluates
     Payload(Option<Spot>, bool),
     /// the items of a text

@@ -1,17 +1,18 @@
 use crate::frame::Header;
 use crate::node::{Line, Node};
 use pj_syntax::{Package, Path, PathList, Script, Spot, SpotList};
+use sqlite_items::Boxed;
 
 /// An operand that was read, and how it may go on: only some can be called, assigned or defined.
 #[derive(Drop)]
 pub enum Head {
     Name(Spot),
     /// `M.x`, of a module
-    Member(Spot, Spot),
+    Member(Boxed<Spot>, Spot),
     /// `Base.:OP`
-    Operator(Spot, Spot),
+    Operator(Boxed<Spot>, Spot),
     /// a field that can be assigned
-    Place(Node, Spot),
+    Place(Boxed<Node>, Spot),
     /// a call whose arguments are names, with or without modules
     Call(Path, PathList),
     Plain(Node),
@@ -34,9 +35,9 @@ pub enum Mode {
     /// a field's name behind the dot. The flag says whether the field can be assigned.
     Field(Node, bool),
     /// a name behind a module and its dot, or the colon of `Base.:OP`
-    Member(Spot),
+    Member(Boxed<Spot>),
     /// the operator of `Base.:OP`
-    BaseOperator(Spot),
+    BaseOperator(Boxed<Spot>),
     /// an argument, or the end of the arguments
     Arguments,
     /// a parameter, or the end of the parameters
@@ -57,8 +58,8 @@ pub enum Mode {
     EvalColon,
     EvalOpen,
     /// the first and the second `)` behind what `eval` evaluates
-    PayloadEnd(Line),
-    EvalEnd(Line),
+    PayloadEnd(Boxed<Line>),
+    EvalEnd(Boxed<Line>),
     /// what follows `return` at a place
     Return(usize),
     GlobalName(usize),

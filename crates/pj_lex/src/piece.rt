@@ -62,7 +62,7 @@ fn string(alloc: Global, characters: &[char]) -> Result<Option<Piece>, NoMemory>
         return Ok(None);
     };
     Ok(Some(Piece {
-        what: Some(TokenKind::Str(Text::from_string(value))),
+        what: Some(TokenKind::Str(Text::from_str(alloc, value.as_str())?)),
         size: 1 + characters.len() - rest.len(),
     }))
 }
@@ -109,7 +109,7 @@ fn word(alloc: Global, all: &[char], second: &[char]) -> Result<Option<Piece>, N
     let text = text_of(alloc, front)?;
     let what = match reserved_word(text.as_str()) {
         Some(word) => TokenKind::Reserved(word),
-        None => TokenKind::Name(Text::from_string(text)),
+        None => TokenKind::Name(Text::from_str(alloc, text.as_str())?),
     };
     Ok(Some(Piece {
         what: Some(what),

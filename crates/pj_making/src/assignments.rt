@@ -51,7 +51,7 @@ pub fn target_value(alloc: Global, target: &Target) -> Result<Node, NoMemory>
 {
     match target {
         Target::Local(name) => name_copied(alloc, name),
-        Target::Field(e, field) => field_copied(alloc, e, field),
+        Target::Field(e, field) => field_copied(alloc, e.get(), field),
         Target::Global(_, name) => name_copied(alloc, name),
     }
 }
@@ -72,16 +72,14 @@ fn local_set(name: Spot, e: Node) -> Line
 
 /// An assignment of a global, without an operator.
 #[tactic(auto, unfolding(pj_grammar::specs::Makers::assign_of))]
-fn global_set(at: usize, name: Spot, e: Node) -> Line
+fn global_set(alloc: Global, at: usize, name: Spot, e: Node) -> Result<Line, NoMemory>
     requires { e.nesting ≤ 3 + most_nesting }
-    ensures made { result ≡ assign_of (Target.Global at name) None e }
-    ensures nests { result.nesting ≡ 1 + e.nesting }
+    ensures made { IfOk result (λ made. made ≡ assign_of (Target.Global at name) None e) }
+    ensures nests { IfOk result (λ made. made.nesting ≡ 1 + e.nesting) }
 {
     let nesting = 1 + e.nesting;
-    Line {
-        tree: Stmt::Global(at, name, e.tree),
-        nesting,
-    }
+    let tree = Stmt::Global(at, name, boxed(alloc, e)?);
+    Ok(Line { tree, nesting })
 }
 
 /// The statement that sets a field.
@@ -115,8 +113,8 @@ fn set_of(alloc: Global, target: Target, e: Node) -> Result<Line, NoMemory>
 {
     match target {
         Target::Local(name) => Ok(local_set(name, e)),
-        Target::Field(holder, field) => field_set(alloc, holder, field, e),
-        Target::Global(at, name) => Ok(global_set(at, name, e)),
+        Target::Field(holder, field) => field_set(alloc, holder.into_inner(), field, e),
+        Target::Global(at, name) => global_set(alloc, at, name, e),
     }
 }
 

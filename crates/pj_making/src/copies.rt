@@ -1,7 +1,8 @@
-//! Copies of names and expressions. An assignment with an operator has what it sets in two places.
+//! Copies of tokens, names and expressions. An assignment with an operator has what it sets in two places.
 ghost use Rattle.std.specs.Prelude.{◌≡◌, IfOk};
 
-use pj_base::{NoMemory, Text};
+use pj_base::NoMemory;
+use pj_lex::{Token, TokenKind};
 use pj_syntax::{Argument, ArgumentList, Expr, Path, Spot};
 use sqlite_items::{Boxed, Items};
 use std::alloc::Global;
@@ -10,8 +11,37 @@ use std::alloc::Global;
 pub fn copy_spot(alloc: Global, spot: &Spot) -> Result<Spot, NoMemory>
     ensures { IfOk result (λ copied. copied ≡ spot.now) }
 {
-    let text = Text::from_str(alloc, spot.text.as_str())?;
+    let text = spot.text.copied(alloc)?;
     Ok(Spot { text, at: spot.at })
+}
+
+/// A copy of what a token is.
+fn copy_kind(alloc: Global, kind: &TokenKind) -> Result<TokenKind, NoMemory>
+    ensures { IfOk result (λ copied. copied ≡ kind.now) }
+{
+    match kind {
+        TokenKind::Name(text) => Ok(TokenKind::Name(text.copied(alloc)?)),
+        TokenKind::Str(text) => Ok(TokenKind::Str(text.copied(alloc)?)),
+        TokenKind::Integer(value) => Ok(TokenKind::Integer(*value)),
+        TokenKind::Reserved(word) => Ok(TokenKind::Reserved(*word)),
+        TokenKind::Sign(sign) => Ok(TokenKind::Sign(*sign)),
+        TokenKind::AtEval => Ok(TokenKind::AtEval),
+        TokenKind::Separator => Ok(TokenKind::Separator),
+        TokenKind::Eof => Ok(TokenKind::Eof),
+    }
+}
+
+/// A copy of a token.
+pub fn copy_token(alloc: Global, token: &Token) -> Result<Token, NoMemory>
+    ensures { IfOk result (λ copied. copied ≡ token.now) }
+{
+    let what = copy_kind(alloc, &token.what)?;
+    Ok(Token {
+        what,
+        start: token.start,
+        end: token.end,
+        blank: token.blank,
+    })
 }
 
 /// A copy of a name with its module.
@@ -20,7 +50,10 @@ pub fn copy_path(alloc: Global, path: &Path) -> Result<Path, NoMemory>
 {
     match path {
         Path::Bare(name) => Ok(Path::Bare(copy_spot(alloc, name)?)),
-        Path::Of(owner, name) => Ok(Path::Of(copy_spot(alloc, owner)?, copy_spot(alloc, name)?)),
+        Path::Of(owner, name) => {
+            let owner = Boxed::new(alloc, copy_spot(alloc, owner.get())?)?;
+            Ok(Path::Of(owner, copy_spot(alloc, name)?))
+        }
     }
 }
 
@@ -41,11 +74,11 @@ pub fn copy_expr(alloc: Global, e: &Expr) -> Result<Expr, NoMemory>
         Expr::False => Ok(Expr::False),
         Expr::True => Ok(Expr::True),
         Expr::Int(n) => Ok(Expr::Int(*n)),
-        Expr::Str(s) => Ok(Expr::Str(Text::from_str(alloc, s.as_str())?)),
+        Expr::Str(s) => Ok(Expr::Str(s.copied(alloc)?)),
         Expr::Name(path) => Ok(Expr::Name(copy_path(alloc, path)?)),
         Expr::Field(a, x) => Ok(Expr::Field(boxed(alloc, a.get())?, copy_spot(alloc, x)?)),
         Expr::Call(f, es) => Ok(Expr::Call(
-            copy_path(alloc, f)?,
+            Boxed::new(alloc, copy_path(alloc, f.get())?)?,
             copy_arguments(alloc, es.as_slice())?,
         )),
         Expr::Latest(es) => Ok(Expr::Latest(copy_arguments(alloc, es.as_slice())?)),

@@ -18,7 +18,7 @@ pub fn path_at(path: &Path) -> usize
 {
     match path {
         Path::Bare(name) => name.at,
-        Path::Of(owner, _) => owner.at,
+        Path::Of(owner, _) => owner.get().at,
     }
 }
 
@@ -34,7 +34,7 @@ pub fn operator_path(alloc: Global, operator: Operator) -> Result<Path, NoMemory
         text: Text::from_str(alloc, operator_text(operator.sign))?,
         at: operator.at,
     };
-    Ok(Path::Of(owner, name))
+    Ok(Path::Of(Boxed::new(alloc, owner)?, name))
 }
 
 /// The literal that a reserved word is.
@@ -150,7 +150,7 @@ pub fn prefix_of(alloc: Global, operator: Operator, e: Node) -> Result<Node, NoM
     ensures nests { IfOk result (λ made. made.nesting ≡ 1 + e.nesting) }
 {
     let nesting = 1 + e.nesting;
-    let path = operator_path(alloc, operator)?;
+    let path = Boxed::new(alloc, operator_path(alloc, operator)?)?;
     let mut arguments = Items::new(alloc);
     arguments.push(argument(e))?;
     Ok(Node {
@@ -212,7 +212,7 @@ fn or_tree(alloc: Global, left: Node, right: Node) -> Result<Expr, NoMemory>
 fn call_tree(alloc: Global, operator: Operator, left: Node, right: Node) -> Result<Expr, NoMemory>
     ensures { IfOk result (λ tree. tree ≡ Expr.Call (operator_path operator) (record { at = left.at; value = left.tree } ∷ record { at = right.at; value = right.tree } ∷ [])) }
 {
-    let path = operator_path(alloc, operator)?;
+    let path = Boxed::new(alloc, operator_path(alloc, operator)?)?;
     let mut arguments = Items::new(alloc);
     arguments.push(argument(left))?;
     arguments.push(argument(right))?;
@@ -307,7 +307,7 @@ pub fn is_latest(path: &Path) -> bool
     match path {
         Path::Bare(name) => name.text.as_str() == "invokelatest",
         Path::Of(owner, name) => {
-            owner.text.as_str() == "Base" && name.text.as_str() == "invokelatest"
+            owner.get().text.as_str() == "Base" && name.text.as_str() == "invokelatest"
         }
     }
 }
@@ -322,17 +322,17 @@ pub fn lacks(path: &Path, given: &Arguments) -> bool
 
 /// A call.
 #[tactic(auto, unfolding(pj_grammar::specs::Makers::call_of, pj_grammar::specs::Makers::lacks, pj_grammar::specs::Makers::no_arguments))]
-pub fn call_of(path: Path, given: Arguments) -> Node
+pub fn call_of(alloc: Global, path: Path, given: Arguments) -> Result<Node, NoMemory>
     requires { given.nesting ≤ most_nesting }
-    ensures made { result ≡ call_of path given }
-    ensures nests { result.nesting ≡ 1 + given.nesting }
+    ensures made { IfOk result (λ made. made ≡ call_of path given) }
+    ensures nests { IfOk result (λ made. made.nesting ≡ 1 + given.nesting) }
 {
     let at = path_at(&path);
     let nesting = 1 + given.nesting;
     let tree = if is_latest(&path) {
         Expr::Latest(given.trees)
     } else {
-        Expr::Call(path, given.trees)
+        Expr::Call(Boxed::new(alloc, path)?, given.trees)
     };
-    Node { tree, nesting, at }
+    Ok(Node { tree, nesting, at })
 }

@@ -48,7 +48,7 @@ fn call_node(alloc: Global, path: Path, paths: PathList) -> Result<Node, NoMemor
 {
     let given = paths_given(alloc, paths)?;
     small(given.nesting)?;
-    Ok(call_of(path, given))
+    call_of(alloc, path, given)
 }
 
 /// An operand as a value. One whose parts nest too deep for a sum counts as want of memory.
@@ -59,7 +59,7 @@ pub fn node(alloc: Global, head: Head) -> Result<Node, NoMemory>
         Head::Name(name) => Ok(name_of(Path::Bare(name))),
         Head::Member(owner, name) => Ok(name_of(Path::Of(owner, name))),
         Head::Operator(owner, name) => Ok(name_of(Path::Of(owner, name))),
-        Head::Place(e, field) => place_node(alloc, e, field),
+        Head::Place(e, field) => place_node(alloc, e.into_inner(), field),
         Head::Call(path, paths) => call_node(alloc, path, paths),
         Head::Plain(e) => Ok(e),
     }

@@ -106,21 +106,6 @@ fn name_in_run(run: UsingRun, kind: &TokenKind) -> Option<&str>
     }
 }
 
-/// The names, and the one that a token adds, if any.
-fn with_token(
-    alloc: Global,
-    modules: ModuleNames,
-    run: UsingRun,
-    kind: &TokenKind,
-) -> Result<ModuleNames, NoMemory>
-    ensures { IfOk result (λ more. more ≡ modules ++ name_in_run (run_of run) kind.now) }
-{
-    match name_in_run(run, kind) {
-        Some(name) => modules.with(alloc, name),
-        None => Ok(modules),
-    }
-}
-
 /// The names of the modules of a text: `Base`, the text's own name, and each that is used, wherever `using` stands.
 pub fn modules_of(alloc: Global, own: &str, tokens: &[Token]) -> Result<ModuleNames, NoMemory>
     ensures { IfOk result (λ modules. modules ≡ modules_of own.now tokens.now) }
@@ -130,7 +115,9 @@ pub fn modules_of(alloc: Global, own: &str, tokens: &[Token]) -> Result<ModuleNa
         .with(alloc, own)?;
     let mut run = UsingRun::Outside;
     for token in tokens {
-        modules = with_token(alloc, modules, run, &token.what)?;
+        if let Some(name) = name_in_run(run, &token.what) {
+            modules = modules.with(alloc, name)?;
+        }
         run = run_after(run, &token.what);
     }
     Ok(modules)

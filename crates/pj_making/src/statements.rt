@@ -111,33 +111,29 @@ pub fn continue_of(at: usize) -> Line
 
 /// `if` with its branches.
 #[tactic(auto, unfolding(pj_grammar::specs::Makers::if_of))]
-pub fn if_of(condition: Node, holds: Lines, fails: Lines) -> Line
+pub fn if_of(alloc: Global, condition: Node, holds: Lines, fails: Lines) -> Result<Line, NoMemory>
     requires condition { condition.nesting ≤ most_nesting }
     requires holds { holds.nesting ≤ most_nesting }
     requires fails { fails.nesting ≤ most_nesting }
-    ensures made { result ≡ if_of condition holds fails }
-    ensures nests { result.nesting ≡ 1 + max condition.nesting (max holds.nesting fails.nesting) }
+    ensures made { IfOk result (λ made. made ≡ if_of condition holds fails) }
+    ensures nests { IfOk result (λ made. made.nesting ≡ 1 + max condition.nesting (max holds.nesting fails.nesting)) }
 {
     let nesting = 1 + condition.nesting.max(holds.nesting.max(fails.nesting));
-    Line {
-        tree: Stmt::If(condition.tree, holds.trees, fails.trees),
-        nesting,
-    }
+    let tree = Stmt::If(boxed(alloc, condition)?, holds.trees, fails.trees);
+    Ok(Line { tree, nesting })
 }
 
 /// `while` with its body.
 #[tactic(auto, unfolding(pj_grammar::specs::Makers::while_of))]
-pub fn while_of(condition: Node, body: Lines) -> Line
+pub fn while_of(alloc: Global, condition: Node, body: Lines) -> Result<Line, NoMemory>
     requires condition { condition.nesting ≤ most_nesting }
     requires body { body.nesting ≤ most_nesting }
-    ensures made { result ≡ while_of condition body }
-    ensures nests { result.nesting ≡ 1 + max condition.nesting body.nesting }
+    ensures made { IfOk result (λ made. made ≡ while_of condition body) }
+    ensures nests { IfOk result (λ made. made.nesting ≡ 1 + max condition.nesting body.nesting) }
 {
     let nesting = 1 + condition.nesting.max(body.nesting);
-    Line {
-        tree: Stmt::While(condition.tree, body.trees),
-        nesting,
-    }
+    let tree = Stmt::While(boxed(alloc, condition)?, body.trees);
+    Ok(Line { tree, nesting })
 }
 
 /// The statement that is a `for`.

@@ -1,12 +1,12 @@
 -- What a frame takes behind an operand, where no sign goes on with that.
-use Rattle.std.specs.Prelude.{ℕ, List, [], ◌∷◌, Option, None, if◌then◌else◌}
+use Rattle.std.specs.Prelude.{ℕ, List, [], ◌∷◌, Option, None}
 use Rattle.pj_lex.specs.declared.token.TokenKind.{TokenKind}
 use Rattle.pj_grammar.specs.declared.frame.Frame.{Frame}
 use Rattle.pj_grammar.specs.declared.frame.Frame.TheVariants as frames
 use Rattle.pj_grammar.specs.declared.frame.Purpose.TheVariants as purposes
 use Rattle.pj_grammar.specs.declared.mode.Head.{Head}
 use Rattle.pj_grammar.specs.Frames.{State, head_path}
-use Rattle.pj_grammar.specs.Operands.{begin_type, have_path, have_value, is_type_word}
+use Rattle.pj_grammar.specs.Operands.{have_path}
 use Rattle.pj_operands.specs.declared.finishing.Wanted.{Wanted}
 use Rattle.pj_operands.specs.declared.finishing.Wanted.TheVariants as wants
 
@@ -30,10 +30,6 @@ wanted_on _ = wants.Value
 abbrev pub below_top : List Frame → List Frame
 below_top (f ∷ k) = k
 below_top _ = []
-
--- the first operand of a statement or a payload, whose frame is on top
-abbrev pub first_on : Head → List Frame → TokenKind → Option State
-first_on h k kind = if is_type_word h kind then begin_type kind (below_top k) else have_value h k kind
 
 -- a name in a place that takes no expression, whose frame is on top
 abbrev pub path_on : Head → List Frame → ℕ → TokenKind → Option State

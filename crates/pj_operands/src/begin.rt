@@ -21,7 +21,7 @@ use pj_making::expressions::{field_of, leaf, literal_of};
 use pj_making::levels::{is_prefix, operator_text};
 use pj_making::params::params_of;
 use pj_syntax::{Expr, ParamList, Path, PathList, Spot};
-use sqlite_items::Items;
+use sqlite_items::{Boxed, Items};
 use std::alloc::Global;
 
 /// A name was read.
@@ -185,14 +185,14 @@ pub fn operand(alloc: Global, stack: Stack, place: Place, kind: TokenKind) -> An
 }
 
 /// The arguments end where one may begin.
-fn end_arguments(mut stack: Stack) -> Answer
+fn end_arguments(alloc: Global, mut stack: Stack) -> Answer
     ensures { IfOk result (λ r. r ≡ end_arguments stack) }
 {
     let Some(frame) = stack.pop() else {
         return Ok(None);
     };
     match frame {
-        Frame::Call(f, given) => close_call(f, given, stack),
+        Frame::Call(f, given) => close_call(alloc, f, given, stack),
         other => let_go(other),
     }
 }
@@ -328,7 +328,7 @@ pub fn argument(alloc: Global, stack: Stack, place: Place, kind: TokenKind) -> A
     ensures { IfOk result (λ r. r ≡ argument stack (place_of place) kind) }
 {
     match kind {
-        TokenKind::Sign(Sign::RightParen) => end_arguments(stack),
+        TokenKind::Sign(Sign::RightParen) => end_arguments(alloc, stack),
         TokenKind::Sign(Sign::DoubleColon) => type_argument(alloc, place.start, stack),
         TokenKind::Sign(Sign::Colon) => quote(stack),
         other => operand(alloc, stack, place, other),
@@ -389,7 +389,7 @@ fn field_read(alloc: Global, e: Node, assignable: bool, field: Spot, stack: Stac
     ensures { IfOk result (λ r. r ≡ field_name e assignable stack (record { start = field.at; end = 0; blank = true }) (TokenKind.Name field.text)) }
 {
     if assignable {
-        return Ok(at(Mode::Have(Head::Place(e, field)), stack));
+        return Ok(at(Mode::Have(Head::Place(Boxed::new(alloc, e)?, field)), stack));
     }
     small(e.nesting)?;
     let e = field_of(alloc, e, field)?;
@@ -420,7 +420,7 @@ pub fn field_name(
 }
 
 /// A name behind a module and its dot, or the colon of `Base.:OP`.
-pub fn member_name(m: Spot, stack: Stack, place: Place, kind: TokenKind) -> Option<Reading>
+pub fn member_name(m: Boxed<Spot>, stack: Stack, place: Place, kind: TokenKind) -> Option<Reading>
     ensures { result ≡ member_name m stack (place_of place) kind }
 {
     match kind {
@@ -432,7 +432,7 @@ pub fn member_name(m: Spot, stack: Stack, place: Place, kind: TokenKind) -> Opti
             at(Mode::Have(Head::Member(m, x)), stack)
         }
         TokenKind::Sign(Sign::Colon) => {
-            let holds = m.text.as_str() == "Base" && admits(stack.layers(), Level::Callee);
+            let holds = m.get().text.as_str() == "Base" && admits(stack.layers(), Level::Callee);
             guarded(holds, Mode::BaseOperator(m), stack)
         }
         other => gone(other),
@@ -440,7 +440,13 @@ pub fn member_name(m: Spot, stack: Stack, place: Place, kind: TokenKind) -> Opti
 }
 
 /// The operator of `Base.:OP`.
-pub fn base_operator(alloc: Global, m: Spot, stack: Stack, place: Place, kind: TokenKind) -> Answer
+pub fn base_operator(
+    alloc: Global,
+    m: Boxed<Spot>,
+    stack: Stack,
+    place: Place,
+    kind: TokenKind,
+) -> Answer
     ensures { IfOk result (λ r. r ≡ base_operator m stack (place_of place) kind) }
 {
     match kind {

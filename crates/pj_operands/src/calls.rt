@@ -189,7 +189,7 @@ fn close_paths(f: Path, paths: PathList, stack: Stack, lacks: bool) -> Option<Re
 }
 
 /// A call ends.
-pub fn close_call(f: Path, given: Given, stack: Stack) -> Answer
+pub fn close_call(alloc: Global, f: Path, given: Given, stack: Stack) -> Answer
     ensures { IfOk result (λ r. r ≡ close_call f given stack) }
 {
     match given {
@@ -199,19 +199,19 @@ pub fn close_call(f: Path, given: Given, stack: Stack) -> Answer
         }
         Given::Mixed(arguments) => {
             small(arguments.nesting)?;
-            let call = call_of(f, arguments);
+            let call = call_of(alloc, f, arguments)?;
             Ok(at(Mode::Have(Head::Plain(call)), stack))
         }
     }
 }
 
 /// What follows an argument.
-pub fn after_argument(f: Path, given: Given, stack: Stack, kind: TokenKind) -> Answer
+pub fn after_argument(alloc: Global, f: Path, given: Given, stack: Stack, kind: TokenKind) -> Answer
     ensures { IfOk result (λ r. r ≡ after_argument f given stack kind) }
 {
     match kind {
         TokenKind::Sign(Sign::Comma) => over(Mode::Arguments, Frame::Call(f, given), stack),
-        TokenKind::Sign(Sign::RightParen) => close_call(f, given, stack),
+        TokenKind::Sign(Sign::RightParen) => close_call(alloc, f, given, stack),
         other => let_go(other),
     }
 }

@@ -1,12 +1,13 @@
 //! Ends of expressions, and what else follows an operand.
 ghost use Rattle.std.specs.Prelude.{◌≡◌, ◌∷◌, IfOk};
-ghost use Rattle.pj_grammar.specs.Frames.{at as state_at};
+ghost use Rattle.pj_grammar.specs.Frames.{at as state_at, node as head_node};
 ghost use Rattle.pj_grammar.specs.Makers.{no_lines};
-ghost use Rattle.pj_grammar.specs.Operands.{add_name, after_purpose, begin_type, finish_at, have_other, have_path, have_value, is_type_word};
+ghost use Rattle.pj_grammar.specs.Operands.{add_name, after_purpose, begin_type, finish_at, have_first, have_other, have_path, have_value, is_type_word};
 ghost use Rattle.pj_frames.specs.Stacked.{frames_of};
-ghost use Rattle.pj_operands.specs.Wants.{below_top, first_on, path_on, wanted_of, wanted_on};
+ghost use Rattle.pj_operands.specs.Wants.{below_top, path_on, wanted_of, wanted_on};
 
 use crate::calls::{after_argument, after_group};
+use pj_base::NoMemory;
 use pj_ends::ends::after_end;
 use pj_ends::evaluated::{closed_method, closed_set, closed_value};
 use pj_ends::lines::{closed_entry, closed_line};
@@ -25,6 +26,7 @@ use pj_making::params::bare_param;
 use pj_making::statements::{no_lines, return_of};
 use pj_syntax::{ParamList, Path, Spot};
 use pj_words::Word;
+use sqlite_items::Boxed;
 use std::alloc::Global;
 
 /// The statements of a block begin.
@@ -39,7 +41,7 @@ fn after_if(alloc: Global, e: Node, stack: Stack, kind: &TokenKind) -> Answer
     ensures { IfOk result (λ r. r ≡ after_purpose Purpose.If e stack kind.now) }
 {
     match kind {
-        TokenKind::Separator => open_block(alloc, Opener::If(e), stack),
+        TokenKind::Separator => open_block(alloc, Opener::If(Boxed::new(alloc, e)?), stack),
         _ => Ok(None),
     }
 }
@@ -49,27 +51,42 @@ fn after_while(alloc: Global, e: Node, stack: Stack, kind: &TokenKind) -> Answer
     ensures { IfOk result (λ r. r ≡ after_purpose Purpose.While e stack kind.now) }
 {
     match kind {
-        TokenKind::Separator => open_block(alloc, Opener::While(e), stack),
+        TokenKind::Separator => open_block(alloc, Opener::While(Boxed::new(alloc, e)?), stack),
         _ => Ok(None),
     }
 }
 
 /// The second bound of a loop ends.
-fn after_to(alloc: Global, x: Spot, from: Node, e: Node, stack: Stack, kind: &TokenKind) -> Answer
+fn after_to(
+    alloc: Global,
+    x: Spot,
+    from: Boxed<Node>,
+    e: Node,
+    stack: Stack,
+    kind: &TokenKind,
+) -> Answer
     ensures { IfOk result (λ r. r ≡ after_purpose (Purpose.To x from) e stack kind.now) }
 {
     match kind {
-        TokenKind::Separator => open_block(alloc, Opener::For(x, from, e), stack),
+        TokenKind::Separator => open_block(
+            alloc,
+            Opener::For(x, from, Boxed::new(alloc, e)?),
+            stack,
+        ),
         _ => Ok(None),
     }
 }
 
 /// The first bound of a loop ends.
-fn after_from(x: Spot, e: Node, stack: Stack, kind: &TokenKind) -> Answer
+fn after_from(alloc: Global, x: Spot, e: Node, stack: Stack, kind: &TokenKind) -> Answer
     ensures { IfOk result (λ r. r ≡ after_purpose (Purpose.From x) e stack kind.now) }
 {
     match kind {
-        TokenKind::Sign(Sign::Colon) => over(Mode::Want, Frame::Hole(Purpose::To(x, e)), stack),
+        TokenKind::Sign(Sign::Colon) => over(
+            Mode::Want,
+            Frame::Hole(Purpose::To(x, Boxed::new(alloc, e)?)),
+            stack,
+        ),
         _ => Ok(None),
     }
 }
@@ -142,23 +159,38 @@ fn after_purpose(alloc: Global, purpose: Purpose, e: Node, stack: Stack, kind: &
         Purpose::Return(word) => after_returned(alloc, word, e, stack, kind),
         Purpose::If => after_if(alloc, e, stack, kind),
         Purpose::While => after_while(alloc, e, stack, kind),
-        Purpose::From(x) => after_from(x, e, stack, kind),
+        Purpose::From(x) => after_from(alloc, x, e, stack, kind),
         Purpose::To(x, from) => after_to(alloc, x, from, e, stack, kind),
         Purpose::Const(x) => after_const(alloc, x, e, stack, kind),
         Purpose::Short(f, params) => after_short(alloc, f, params, e, stack, kind),
     }
 }
 
-/// The first branch of a condition ends.
+/// A condition and its first branch, before the second.
+fn else_frame(alloc: Global, c: Node, first: Node) -> Result<Frame, NoMemory>
+    ensures { IfOk result (λ made. made ≡ Frame.Else c first) }
+{
+    let condition = Boxed::new(alloc, c)?;
+    let holds = Boxed::new(alloc, first)?;
+    Ok(Frame::Else(condition, holds))
+}
+
+/// The first branch of a condition ends with `:`.
+fn first_ends(alloc: Global, c: Node, head: Head, stack: Stack) -> Answer
+    ensures { IfOk result (λ r. r ≡ state_at Mode.Want (Frame.Else c (head_node head) ∷ stack)) }
+{
+    let first = node(alloc, head)?;
+    let frame = else_frame(alloc, c, first)?;
+    over(Mode::Want, frame, stack)
+}
+
+/// What follows the first branch of a condition.
 fn after_then(alloc: Global, c: Node, head: Head, stack: Stack, kind: &TokenKind) -> Answer
     ensures { IfOk result (λ r. r ≡ finish_at head (Frame.Then c ∷ stack) kind.now) }
 {
     match kind {
-        TokenKind::Sign(Sign::Colon) => {
-            let first = node(alloc, head)?;
-            over(Mode::Want, Frame::Else(c, first), stack)
-        }
-        _ => Ok(None),
+        TokenKind::Sign(Sign::Colon) => first_ends(alloc, c, head, stack),
+        _ => let_go((c, (head, stack))),
     }
 }
 
@@ -174,7 +206,7 @@ fn after_given(
     ensures { IfOk result (λ r. r ≡ finish_at head (Frame.Call f given ∷ stack) kind) }
 {
     let given = give(alloc, given, head)?;
-    after_argument(f, given, stack, kind)
+    after_argument(alloc, f, given, stack, kind)
 }
 
 /// The expression of a purpose ends.
@@ -241,20 +273,30 @@ fn begin_type(kind: &TokenKind, stack: Stack) -> Option<Reading>
 fn below_top(mut stack: Stack) -> Stack
     ensures { result ≡ below_top stack }
 {
-    match stack.pop() {
-        Some(_) => stack,
-        None => stack,
-    }
+    let _ = stack.pop();
+    stack
 }
 
-/// What follows the first operand of a statement or a payload, whose frame is on top.
+/// The end of the expression with which a statement or a payload begins, over the frames below its own. No operator is open in it.
+#[tactic(auto, unfolding(pj_grammar::specs::Frames::settle))]
+fn first_value(alloc: Global, head: Head, stack: Stack, kind: &TokenKind) -> Answer
+    ensures { IfOk result (λ r. r ≡ have_value head (Frame.Hole Purpose.Value ∷ stack) kind.now) }
+{
+    if !is_value(&head) {
+        return Ok(None);
+    }
+    let e = node(alloc, head)?;
+    after_value(alloc, e, stack, kind)
+}
+
+/// What follows the first operand of a statement or a payload, over the frames below its own.
 fn have_first(alloc: Global, head: Head, stack: Stack, kind: TokenKind) -> Answer
-    ensures { IfOk result (λ r. r ≡ first_on head stack kind) }
+    ensures { IfOk result (λ r. r ≡ have_first head stack kind) }
 {
     if is_type_word(&head, &kind) {
-        return Ok(begin_type(&kind, below_top(stack)));
+        return Ok(begin_type(&kind, stack));
     }
-    have_value(alloc, head, stack, kind)
+    first_value(alloc, head, stack, &kind)
 }
 
 /// What follows a name in a place that takes no expression, over the frame of the place.
@@ -348,7 +390,7 @@ pub fn have_other(alloc: Global, head: Head, stack: Stack, start: usize, kind: T
         Wanted::Declared => after_function(head, below_top(stack), kind),
         Wanted::Param => add_name(alloc, head, stack, kind),
         Wanted::Path => have_path(alloc, head, stack, start, kind),
-        Wanted::First => have_first(alloc, head, stack, kind),
+        Wanted::First => have_first(alloc, head, below_top(stack), kind),
         Wanted::Value => have_value(alloc, head, stack, kind),
     }
 }

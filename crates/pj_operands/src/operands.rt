@@ -19,6 +19,7 @@ use pj_making::modules::ModuleNames;
 use pj_making::params::params_of;
 use pj_making::tokens::{is_plain, operator_at};
 use pj_syntax::{Path, PathList, Spot};
+use sqlite_items::Boxed;
 use std::alloc::Global;
 
 /// A field's name follows, if the frame on top takes it.
@@ -30,14 +31,14 @@ fn field_follows(e: Node, place: bool, stack: Stack) -> Option<Reading>
 }
 
 /// A dot behind a name.
-fn dot_of_name(modules: &ModuleNames, x: Spot, stack: Stack) -> Option<Reading>
-    ensures { result ≡ have_dot modules.now (Head.Name x) stack }
+fn dot_of_name(alloc: Global, modules: &ModuleNames, x: Spot, stack: Stack) -> Answer
+    ensures { IfOk result (λ r. r ≡ have_dot modules.now (Head.Name x) stack) }
 {
     if modules.is_module(x.text.as_str()) {
         let holds = admits(stack.layers(), Level::Named);
-        guarded(holds, Mode::Member(x), stack)
+        Ok(guarded(holds, Mode::Member(Boxed::new(alloc, x)?), stack))
     } else {
-        field_follows(name_of(Path::Bare(x)), true, stack)
+        Ok(field_follows(name_of(Path::Bare(x)), true, stack))
     }
 }
 
@@ -46,11 +47,11 @@ pub fn have_dot(alloc: Global, modules: &ModuleNames, head: Head, stack: Stack) 
     ensures { IfOk result (λ r. r ≡ have_dot modules.now head stack) }
 {
     match head {
-        Head::Name(x) => Ok(dot_of_name(modules, x, stack)),
+        Head::Name(x) => dot_of_name(alloc, modules, x, stack),
         Head::Member(m, x) => Ok(field_follows(name_of(Path::Of(m, x)), true, stack)),
         Head::Place(e, x) => {
-            small(e.nesting)?;
-            Ok(field_follows(field_of(alloc, e, x)?, true, stack))
+            small(e.get().nesting)?;
+            Ok(field_follows(field_of(alloc, e.into_inner(), x)?, true, stack))
         }
         other => Ok(field_follows(node(alloc, other)?, false, stack)),
     }
@@ -152,7 +153,13 @@ fn assign_name(x: Spot, stack: Stack, start: usize, operator: Option<Sign>) -> A
 }
 
 /// An assignment to a field.
-fn assign_place(e: Node, x: Spot, stack: Stack, start: usize, operator: Option<Sign>) -> Answer
+fn assign_place(
+    e: Boxed<Node>,
+    x: Spot,
+    stack: Stack,
+    start: usize,
+    operator: Option<Sign>,
+) -> Answer
     ensures { IfOk result (λ r. r ≡ have_assign (Head.Place e x) (Frame.Hole Purpose.Value ∷ stack) start operator) }
 {
     let holds = takes_lines(stack.layers());

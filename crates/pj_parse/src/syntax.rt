@@ -67,10 +67,14 @@ fn out_of_scope(fault: Fault) -> SyntaxFault
 }
 
 /// Tokens as a script, before scopes are asked. `Base` is among the modules.
-fn script_of(alloc: Global, modules: &ModuleNames, tokens: TokenList) -> Result<Script, SyntaxFault>
+fn script_of(
+    alloc: Global,
+    modules: &ModuleNames,
+    tokens: &TokenList,
+) -> Result<Script, SyntaxFault>
     requires base { HasBase modules.now }
-    ensures read { IfOk result (λ s. Accepts modules.now script tokens (parsed.Script s)) }
-    ensures fault { IfErr result (Stops modules.now script tokens) }
+    ensures read { IfOk result (λ s. Accepts modules.now script tokens.now (parsed.Script s)) }
+    ensures fault { IfErr result (Stops modules.now script tokens.now) }
 {
     let read = match read(alloc, modules, TextKind::Script, tokens) {
         Ok(read) => read,
@@ -100,7 +104,7 @@ pub fn script_syntax(alloc: Global, bytes: &[u8]) -> Result<Script, SyntaxFault>
 {
     let tokens = tokens(alloc, bytes)?;
     let modules = modules_of(alloc, "Main", tokens.as_slice())?;
-    let read = script_of(alloc, &modules, tokens)?;
+    let read = script_of(alloc, &modules, &tokens)?;
     scoped_script(alloc, &modules, read)
 }
 
@@ -108,11 +112,11 @@ pub fn script_syntax(alloc: Global, bytes: &[u8]) -> Result<Script, SyntaxFault>
 fn package_of(
     alloc: Global,
     modules: &ModuleNames,
-    tokens: TokenList,
+    tokens: &TokenList,
 ) -> Result<Package, SyntaxFault>
     requires base { HasBase modules.now }
-    ensures read { IfOk result (λ s. Accepts modules.now «package» tokens (parsed.Package s)) }
-    ensures fault { IfErr result (Stops modules.now «package» tokens) }
+    ensures read { IfOk result (λ s. Accepts modules.now «package» tokens.now (parsed.Package s)) }
+    ensures fault { IfErr result (Stops modules.now «package» tokens.now) }
 {
     let read = match read(alloc, modules, TextKind::Package, tokens) {
         Ok(read) => read,
@@ -147,6 +151,6 @@ pub fn package_syntax(alloc: Global, bytes: &[u8], name: &str) -> Result<Package
 {
     let tokens = tokens(alloc, bytes)?;
     let modules = modules_of(alloc, name, tokens.as_slice())?;
-    let read = package_of(alloc, &modules, tokens)?;
+    let read = package_of(alloc, &modules, &tokens)?;
     scoped_package(alloc, &modules, name, read)
 }

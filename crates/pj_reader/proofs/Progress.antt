@@ -1,6 +1,6 @@
 -- Tokens that are read one by one.
-use Rattle.std.proofs.Common.{◌≡◌, ℕ, suc, ◌+◌, ◌-◌, ◌≤◌, max, Bool, true, false, List, [], ◌∷◌, ◌++◌, length, take, reverse, slice_get, Option, Some, None, refl, sym, ap, ◌∙◌, subst, arith, rules, append_assoc, append-nil, length-append}
-use Rattle.std.proofs.lemmas.List.{length-reverse, reverse-reverse}
+use Rattle.std.proofs.Common.{◌≡◌, ℕ, suc, ◌+◌, ◌-◌, ◌≤◌, max, Bool, true, false, List, [], ◌∷◌, ◌++◌, length, take, drop, get_or, slice_get, Option, Some, None, refl, sym, ap, ◌∙◌, subst, arith, rules, append_assoc, append-nil, length-append}
+use Rattle.std.proofs.Math.Seq.{take-length}
 use Rattle.pj_lex.specs.declared.token.Token.{Token}
 use Rattle.pj_grammar.specs.declared.mode.Parsed.{Parsed}
 use Rattle.pj_grammar.specs.Frames.{State}
@@ -15,7 +15,6 @@ use Rattle.pj_grammar.specs.Texts.{Kind, script, «package»}
 use Rattle.pj_grammar.specs.Theorems.{reached}
 use Rattle.pj_grammar.proofs.Determined.{run-append}
 use Rattle.pj_grammar.proofs.Nesting.{need-nesting}
-use Rattle.pj_making.proofs.Turning.{last-first}
 use Rattle.pj_reader.specs.Read.{Accepts, Before, GoesOn, IsEndless, IsFault, IsNextDeep, IsNextFault, IsNextRefused, IsRefused, IsTooDeep, Progress, deep_fault, ends_text, limit}
 use Rattle.pj_reader.specs.declared.fault.ReadFault.{ReadFault}
 use Rattle.pj_reader.specs.declared.fault.ReadFault.TheVariants as faults
@@ -41,39 +40,45 @@ found : (a b : List Token) (t : Token) → slice_get (a ++ t ∷ b) (length a) �
 found [] b t = refl
 found (x ∷ a) b t = found a b t
 
-module _ (m : Modules) (k : Kind) (ts more rest : List Token) (s : State) (t : Token) (e : more ≡ rest ++ t ∷ []) where
+pub first_and_more : (rest : List Token) (copy first : Token) → 1 ≤ length rest → first ≡ get_or rest 0 first → copy ≡ first
+    → rest ≡ copy ∷ take (length rest - 1) (drop 1 rest)
+first_and_more [] copy first some is same = absurd (omega arith)
+first_and_more (t ∷ ts) copy first some is same =
+    let size : length (t ∷ ts) - 1 ≡ length ts = omega arith in
+    rw (size, take-length ts) (ap (λ x. x ∷ ts) (sym (same ∙ is)))
+
+module _ (m : Modules) (k : Kind) (ts more rest : List Token) (s : State) (t : Token) (e : more ≡ t ∷ rest) where
   behind : (p : Progress m k ts more s) → reached m k (p.done ++ t ∷ []) ≡ step m s t
   behind p = run-append m p.done (t ∷ []) (Some (start k)) ∙ ap (run m (t ∷ [])) p.ran ∙ one_more m s t
 
-  whole : (p : Progress m k ts more s) → p.done ++ t ∷ reverse rest ≡ ts
-  whole p = ap (λ r. p.done ++ r) (sym (last-first rest t more e)) ∙ p.split
+  whole : (p : Progress m k ts more s) → p.done ++ t ∷ rest ≡ ts
+  whole p = ap (λ r. p.done ++ r) (sym e) ∙ p.split
 
   pub goes_on : (s' : State) → Progress m k ts more s → GoesOn m s t s' → Progress m k ts rest s'
   goes_on s' p g = record {
     done = p.done ++ t ∷ [];
-    split = append_assoc p.done (t ∷ []) (reverse rest) ∙ whole p;
+    split = append_assoc p.done (t ∷ []) rest ∙ whole p;
     ran = behind p ∙ g.is;
     within = g.within;
   }
 
   pub count : (p : Progress m k ts more s) → length ts ≡ length p.done + suc (length rest)
   count p =
-      ap length (sym (whole p)) ∙ length-append p.done (t ∷ reverse rest)
-      ∙ ap (λ n. length p.done + suc n) (length-reverse rest)
+      ap length (sym (whole p)) ∙ length-append p.done (t ∷ rest)
 
   number : (p : Progress m k ts more s) (i : ℕ) → i ≡ length ts - 1 - length rest → i ≡ length p.done
   number p i h = omega (arith, count p)
 
   with_one : (p : Progress m k ts more s) → take (suc (length p.done)) ts ≡ p.done ++ t ∷ []
-  with_one p = subst (λ (x : List Token). take (suc (length p.done)) x ≡ p.done ++ t ∷ []) (whole p) (front_more p.done (reverse rest) t)
+  with_one p = subst (λ (x : List Token). take (suc (length p.done)) x ≡ p.done ++ t ∷ []) (whole p) (front_more p.done rest t)
 
   before_at : (p : Progress m k ts more s) → Before m k ts (length p.done) t.start
   before_at p = record {
     token = t;
-    is = subst (λ (x : List Token). slice_get x (length p.done) ≡ Some t) (whole p) (found p.done (reverse rest) t);
+    is = subst (λ (x : List Token). slice_get x (length p.done) ≡ Some t) (whole p) (found p.done rest t);
     starts = refl;
     state = s;
-    reaches = ap (reached m k) (subst (λ (x : List Token). take (length p.done) x ≡ p.done) (whole p) (front p.done (t ∷ reverse rest))) ∙ p.ran;
+    reaches = ap (reached m k) (subst (λ (x : List Token). take (length p.done) x ≡ p.done) (whole p) (front p.done (t ∷ rest))) ∙ p.ran;
     within = p.within;
   }
 
@@ -121,10 +126,10 @@ unfolding need depth no_entries
 small_start script = search rules
 small_start «package» = search rules
 
-pub begun : (m : Modules) (k : Kind) (ts : List Token) (s : State) (rest : List Token) → s ≡ start k → rest ≡ reverse ts → Progress m k ts rest s
+pub begun : (m : Modules) (k : Kind) (ts : List Token) (s : State) (rest : List Token) → s ≡ start k → rest ≡ ts → Progress m k ts rest s
 begun m k ts s rest e h = record {
   done = [];
-  split = ap reverse h ∙ reverse-reverse ts;
+  split = h;
   ran = nothing_more m (Some (start k)) ∙ ap Some (sym e);
   within = subst (λ (x : State). need x ≤ limit) (sym e) (small_start k);
 }

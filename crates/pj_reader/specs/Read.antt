@@ -1,5 +1,5 @@
 -- What a reader answers.
-use Rattle.std.specs.Prelude.{◌≡◌, ℕ, ◌≤◌, suc, Bool, true, false, List, Option, Some, None, reverse, ◌++◌, take, slice_get}
+use Rattle.std.specs.Prelude.{◌≡◌, ℕ, ◌≤◌, suc, Bool, true, false, List, Option, Some, None, ◌++◌, take, slice_get}
 use Rattle.pj_lex.specs.declared.token.Token.{Token}
 use Rattle.pj_lex.specs.declared.token.TokenKind.{TokenKind}
 use Rattle.pj_lex.specs.declared.token.TokenKind.TheVariants as kinds
@@ -105,9 +105,9 @@ abbrev pub deep_fault : Bool → ℕ → ℕ → ReadFault
 deep_fault true i place = faults.Early i place
 deep_fault false i place = faults.Deep i place
 
--- Where a reader stands in the midst of the tokens, of which the rest is kept last first.
+-- Where a reader stands in the midst of the tokens, of which the rest is still to be read.
 pub record Progress (modules : Modules) (kind : Kind) (tokens rest : List Token) (s : State) : Type 0 where
   pub done : List Token
-  pub split : done ++ reverse rest ≡ tokens
+  pub split : done ++ rest ≡ tokens
   pub ran : reached modules kind done ≡ Some s
   pub within : need s ≤ limit

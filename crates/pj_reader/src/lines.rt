@@ -1,5 +1,5 @@
 //! How statements, items and what is evaluated begin, and how they go on.
-ghost use Rattle.std.specs.Prelude.{◌≡◌, ◌∷◌, [], IfOk};
+ghost use Rattle.std.specs.Prelude.{◌≡◌, ◌∷◌, [], IfOk, List};
 ghost use Rattle.pj_grammar.specs.Closing.{after_end, closed_line};
 ghost use Rattle.pj_grammar.specs.Frames.{at as state_at, guarded, takes_items, takes_uses};
 ghost use Rattle.pj_grammar.specs.Machine.{after_return, eval_name_then, global_assign, line, line_word, operand, payload, reads_name, set_global, with_module};
@@ -201,21 +201,35 @@ pub fn payload(
     }
 }
 
+/// The frame of what is evaluated, with a module where it has none yet.
+fn payload_with(m: Spot, owner: Option<Spot>, quoted: bool) -> Frame
+    ensures { (k : List Frame) → result ∷ k ≡ with_module m (Frame.Payload owner quoted ∷ k) }
+{
+    match owner {
+        Some(owner) => Frame::Payload(Some(owner), quoted),
+        None => Frame::Payload(Some(m), quoted),
+    }
+}
+
+/// The same of any frame: another one stays as it is.
+fn frame_with(m: Spot, frame: Frame) -> Frame
+    ensures { (k : List Frame) → result ∷ k ≡ with_module m (frame ∷ k) }
+{
+    match frame {
+        Frame::Payload(owner, quoted) => payload_with(m, owner, quoted),
+        other => other,
+    }
+}
+
 /// The module of what is evaluated.
 fn with_module(m: Spot, mut stack: Stack) -> Result<Stack, NoMemory>
     ensures { IfOk result (λ k. k ≡ with_module m stack) }
 {
-    match stack.pop() {
-        Some(Frame::Payload(None, quoted)) => {
-            stack.push(Frame::Payload(Some(m), quoted))?;
-            Ok(stack)
-        }
-        Some(frame) => {
-            stack.push(frame)?;
-            Ok(stack)
-        }
-        None => Ok(stack),
-    }
+    let Some(frame) = stack.pop() else {
+        return Ok(stack);
+    };
+    stack.push(frame_with(m, frame))?;
+    Ok(stack)
 }
 
 /// Whether a module's name behind `@eval` is a name to read before a token.

@@ -28,7 +28,7 @@ use pj_operands::begin::{
 };
 use pj_operands::have::have;
 use pj_syntax::{Path, Spot, SpotList};
-use sqlite_items::Items;
+use sqlite_items::{Boxed, Items};
 use std::alloc::Global;
 
 /// A name at a place.
@@ -295,7 +295,7 @@ fn eval_open(stack: Stack, kind: &TokenKind) -> Answer
 
 /// The first `)` behind what `eval` evaluates.
 #[tactic(auto, using(crate::proofs::Parens::close_on, crate::proofs::Parens::close_off))]
-fn payload_end(line: Line, stack: Stack, kind: &TokenKind) -> Option<Reading>
+fn payload_end(line: Boxed<Line>, stack: Stack, kind: &TokenKind) -> Option<Reading>
     ensures { result ≡ expect_sign Sign.RightParen kind.now (state_at (Mode.EvalEnd line) stack) }
 {
     if is_close(kind) {
@@ -307,11 +307,11 @@ fn payload_end(line: Line, stack: Stack, kind: &TokenKind) -> Option<Reading>
 
 /// The second `)` behind what `eval` evaluates.
 #[tactic(auto, using(crate::proofs::Parens::close_on, crate::proofs::Parens::close_off))]
-fn eval_end(alloc: Global, line: Line, stack: Stack, kind: &TokenKind) -> Answer
+fn eval_end(alloc: Global, line: Boxed<Line>, stack: Stack, kind: &TokenKind) -> Answer
     ensures { IfOk result (λ r. r ≡ expect_sign Sign.RightParen kind.now (closed_line line stack)) }
 {
     if is_close(kind) {
-        closed_line(alloc, line, stack)
+        closed_line(alloc, line.into_inner(), stack)
     } else {
         let_go(line)
     }

@@ -1,5 +1,5 @@
 //! The reader of texts.
-ghost use Rattle.std.specs.Prelude.{◌≡◌, ◌∷◌, [], IfErr, IfOk, Some, None, reverse};
+ghost use Rattle.std.specs.Prelude.{◌≡◌, ◌∷◌, [], IfErr, IfOk, Some, None, if◌then◌else◌};
 ghost use Rattle.pj_grammar.specs.Machine.{accepted, read_frames, start};
 ghost use Rattle.pj_reader.specs.Read.{Accepts, GoesOn, IsFault, IsNextFault, Progress, deep_fault, ends_text, is_accepted, kind_of};
 
@@ -11,10 +11,10 @@ use pj_frames::reading::{Reading, parts, reading_at};
 use pj_frames::stack::{Stack, split_top};
 use pj_grammar::{Entries, Frame, Mode, Parsed, Root};
 use pj_lex::{Token, TokenKind, TokenList};
+use pj_making::copies::copy_token;
 use pj_making::items::no_entries;
 use pj_making::modules::ModuleNames;
 use pj_syntax::{Package, Script};
-use sqlite_items::Items;
 use std::alloc::Global;
 
 /// How deep a text may nest.
@@ -80,34 +80,24 @@ fn next(
     }
 }
 
-/// The tokens, the last first.
-fn reversed(alloc: Global, tokens: TokenList) -> Result<TokenList, NoMemory>
-    ensures { IfOk result (λ turned. turned ≡ reverse tokens) }
-{
-    let mut rest = tokens;
-    let mut turned = Items::new(alloc);
-    while let Some(token) = rest.pop() {
-        turned.push(token)?;
-    }
-    Ok(turned)
-}
-
 /// All tokens, one by one.
 fn read_all(
     alloc: Global,
     modules: &ModuleNames,
     kind: TextKind,
-    tokens: TokenList,
+    tokens: &TokenList,
 ) -> Result<Reading, ReadFault>
-    ensures ok { IfOk result (Progress modules.now (kind_of kind) tokens []) }
-    ensures err { IfErr result (IsFault modules.now (kind_of kind) tokens) }
+    ensures ok { IfOk result (Progress modules.now (kind_of kind) tokens.now []) }
+    ensures err { IfErr result (IsFault modules.now (kind_of kind) tokens.now) }
 {
     let total = tokens.len();
     let mut reading = started(alloc, kind)?;
-    let mut rest = reversed(alloc, tokens)?;
-    while let Some(token) = rest.pop() {
-        let number = total - 1 - rest.len();
+    let mut rest = tokens.as_slice();
+    while let [first, more @ ..] = rest {
+        let number = total - 1 - more.len();
+        let token = copy_token(alloc, first)?;
         reading = next(alloc, modules, reading, token, number)?;
+        rest = more;
     }
     Ok(reading)
 }
@@ -166,16 +156,27 @@ fn is_accepted(mode: &Mode) -> bool
     matches!(mode, Mode::Accepted)
 }
 
+/// What is begun where the reader stands.
+fn stack_of(reading: Reading) -> Stack
+    ensures { result ≡ reading.frames }
+{
+    let (_mode, stack) = parts(reading);
+    stack
+}
+
+/// The tree of a stack, where a text has ended.
+fn ended(ends: bool, stack: Stack) -> Option<(Parsed, usize)>
+    ensures { result ≡ if ends then read_frames stack else None }
+{
+    if ends { read_frames(stack) } else { None }
+}
+
 /// The tree of a text that was read whole, and how deep it nests.
 fn accepted(reading: Reading) -> Option<(Parsed, usize)>
     ensures { result ≡ accepted (Some reading) }
 {
-    let (mode, stack) = parts(reading);
-    if is_accepted(&mode) {
-        read_frames(stack)
-    } else {
-        None
-    }
+    let ends = is_accepted(reading.mode());
+    ended(ends, stack_of(reading))
 }
 
 /// Reads the tokens of a text. The tree is the one with which the grammar's machine accepts them. A fault is at the first token to
@@ -184,10 +185,10 @@ pub fn read(
     alloc: Global,
     modules: &ModuleNames,
     kind: TextKind,
-    tokens: TokenList,
+    tokens: &TokenList,
 ) -> Result<Parsed, ReadFault>
-    ensures read { IfOk result (Accepts modules.now (kind_of kind) tokens) }
-    ensures fault { IfErr result (IsFault modules.now (kind_of kind) tokens) }
+    ensures read { IfOk result (Accepts modules.now (kind_of kind) tokens.now) }
+    ensures fault { IfErr result (IsFault modules.now (kind_of kind) tokens.now) }
 {
     let last = read_all(alloc, modules, kind, tokens)?;
     match accepted(last) {

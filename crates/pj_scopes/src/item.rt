@@ -1,10 +1,10 @@
 //! Items, scripts and packages.
-ghost use Rattle.std.specs.Prelude.{◌≡◌, [], map, true, IfOk};
+ghost use Rattle.std.specs.Prelude.{◌≡◌, ◌∷◌, ◌++◌, [], map, true, IfOk, OnOk};
 ghost use Rattle.pj_scopes.specs.Made.{statement_tree};
 ghost use Rattle.pj_scopes.specs.Resolved.{item, package_tree, script, spelling};
 
 use crate::statement::{method, statement};
-use crate::value::alone;
+use crate::value::{alone, value};
 use crate::word::{
     all_params, maybe_type, path_home, path_name, path_types, spot_word, spot_words,
 };
@@ -60,13 +60,32 @@ fn one_item(alloc: Global, given: &Item) -> Result<TopItem, NoMemory>
     }
 }
 
+/// Adds the tree of an item to a list. Most statements at top level are expressions, which see no locals, as `none` has no names.
+#[tactic(auto, using(crate::proofs::ItemTrees::plain_items))]
+fn add_item(
+    alloc: Global,
+    none: &NameSet,
+    all: &mut Vec<TopItem>,
+    given: &Item,
+) -> Result<(), NoMemory>
+    requires { none.now ≡ [] }
+    ensures { OnOk result (all.new.items ≡ all.old.items ++ item given.now ∷ []) }
+{
+    match given {
+        Item::Run(Stmt::Value(e)) => all.push(TopItem::Run(Tree::Value(value(alloc, none, e)?)))?,
+        other => all.push(one_item(alloc, other)?)?,
+    }
+    Ok(())
+}
+
 /// The trees of some items, in a list that is made as long as they are at once.
 fn all_items(alloc: Global, given: &[Item]) -> Result<ItemList, NoMemory>
     ensures { IfOk result (λ ts. ts ≡ map item given.now) }
 {
+    let none = NameSet::new(alloc);
     let mut all = Vec::with_capacity(alloc, given.len())?;
     for one in given {
-        all.push(one_item(alloc, one)?)?;
+        add_item(alloc, &none, &mut all, one)?;
     }
     Ok(Items::from_vec(all))
 }

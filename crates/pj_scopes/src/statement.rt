@@ -206,18 +206,18 @@ pub fn statement(alloc: Global, top: bool, names: &mut NameSet, s: &Stmt) -> Res
         Stmt::Value(e) => Ok(Tree::Value(value(alloc, names, e)?)),
         Stmt::Set(x, e) => set_tree(alloc, top, x, value(alloc, names, e)?),
         Stmt::SetField(of, x, e) => field_tree(alloc, names, of.get(), x, e.get()),
-        Stmt::Global(_, x, e) => global_tree(alloc, names, x, e),
+        Stmt::Global(_, x, e) => global_tree(alloc, names, x, e.get()),
         Stmt::Return(_, e) => Ok(Tree::Return(returned(alloc, names, e)?)),
         Stmt::Break(_) => Ok(Tree::Break),
         Stmt::Continue(_) => Ok(Tree::Continue),
         Stmt::If(test, chosen, other) => {
             let chosen = block_of(alloc, top, names, chosen.as_slice())?;
             let other = block_of(alloc, top, names, other.as_slice())?;
-            if_tree(alloc, names, test, chosen, other)
+            if_tree(alloc, names, test.get(), chosen, other)
         }
         Stmt::While(test, block) => {
             let (introduced, inner) = scoped(alloc, names, block.as_slice())?;
-            while_tree(alloc, names, test, introduced, inner)
+            while_tree(alloc, names, test.get(), introduced, inner)
         }
         Stmt::For(x, first, last, block) => {
             let (introduced, inner) = loop_scoped(alloc, names, x, block.as_slice())?;

@@ -23,7 +23,10 @@ fn read_tree(alloc: Global, names: &NameSet, path: &Path) -> Result<Tree, NoMemo
             }
             Ok(Tree::Global(no_word(alloc)?, word))
         }
-        Path::Of(module, x) => Ok(Tree::Global(spot_word(alloc, module)?, spot_word(alloc, x)?)),
+        Path::Of(module, x) => {
+            let module = spot_word(alloc, module.get())?;
+            Ok(Tree::Global(module, spot_word(alloc, x)?))
+        }
     }
 }
 
@@ -45,7 +48,7 @@ fn called_tree(
             Ok(Tree::Call(no_word(alloc)?, word, arguments))
         }
         Path::Of(module, x) => {
-            let module = spot_word(alloc, module)?;
+            let module = spot_word(alloc, module.get())?;
             let word = spot_word(alloc, x)?;
             Ok(Tree::Call(module, word, arguments))
         }
@@ -91,7 +94,7 @@ pub fn value(alloc: Global, names: &NameSet, e: &Expr) -> Result<Tree, NoMemory>
         }
         Expr::Call(path, arguments) => {
             let arguments = values(alloc, names, arguments.as_slice())?;
-            called_tree(alloc, names, path, arguments)
+            called_tree(alloc, names, path.get(), arguments)
         }
         Expr::Latest(arguments) => latest_tree(alloc, values(alloc, names, arguments.as_slice())?),
         Expr::And(left, right) => {

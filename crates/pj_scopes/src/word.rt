@@ -20,7 +20,7 @@ pub fn text_word(alloc: Global, text: &str) -> Result<Sym, NoMemory>
 pub fn spot_word(alloc: Global, x: &Spot) -> Result<Sym, NoMemory>
     ensures { IfOk result (λ w. w ≡ word x.now) }
 {
-    text_word(alloc, x.text.as_str())
+    Ok(Sym::Text(x.text.copied(alloc)?))
 }
 
 /// The empty text.
@@ -57,7 +57,7 @@ pub fn path_home(alloc: Global, path: &Path) -> Result<Sym, NoMemory>
 {
     match path {
         Path::Bare(_) => no_word(alloc),
-        Path::Of(module, _) => spot_word(alloc, module),
+        Path::Of(module, _) => spot_word(alloc, module.get()),
     }
 }
 

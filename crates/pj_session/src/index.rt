@@ -1,4 +1,4 @@
-//! An index of what an image binds: its names, and for each function where its method stands.
+//! What is noted of an image that is loaded: in slots the places of its names, and for each function where its method stands.
 
 ghost use Rattle.std.specs.Prelude.{◌≡◌, ◌<◌, ◌^◌, ℕ, List, Some, None, IfOk, length, option_map, option_and_then, slice_get, slice_index_or};
 ghost use Rattle.pj_parts.specs.declared.types.Value.{out-Value};

@@ -60,7 +60,7 @@ fn identity(bytes: &[u8]) -> [u8; 32]
     identity
 }
 
-/// An image with its index.
+/// An image with what is noted of it.
 #[tactic(auto, using(crate::proofs::FirstPlaces::few_names))]
 fn indexed(alloc: Global, image: Image, identity: [u8; 32]) -> Result<Package, NoMemory>
     requires formed { Formed image }

@@ -7,8 +7,8 @@ ghost use Rattle.pj_session.specs.Indexed.{MethodList, names_in_image};
 
 use pj_image::Image;
 
-/// An image that was loaded, and its identity, with an index: the names of its functions and behind them those of its
-/// consts and globals, and for each function where its method stands.
+/// An image that was loaded, and its identity; the places of the names of its functions, and behind them of its consts and globals,
+/// each in a slot that its text tells; and for each function where its method stands.
 #[derive(Drop)]
 pub struct Package {
     pub image: Image,

@@ -59,7 +59,7 @@ fn image_file(alloc: Global, name: &str) -> Result<Text, NoMemory>
 {
     let mut text = String::from_str(alloc, name)?;
     text.push_str(".pimg")?;
-    Ok(Text::from_string(text))
+    Ok(Text::from_str(alloc, text.as_str())?)
 }
 
 /// Reads the file of this name, which is that of a package's image. No file changes.

@@ -14,7 +14,7 @@ pub type SpotList = Items<Spot>;
 #[derive(Debug, Drop)]
 pub enum Path {
     Bare(Spot),
-    Of(Spot, Spot),
+    Of(Boxed<Spot>, Spot),
 }
 
 pub type PathList = Items<Path>;
@@ -42,7 +42,7 @@ pub enum Expr {
     Str(Text),
     Name(Path),
     Field(Boxed<Expr>, Spot),
-    Call(Path, ArgumentList),
+    Call(Boxed<Path>, ArgumentList),
     Latest(ArgumentList),
     And(Boxed<Expr>, Boxed<Expr>),
     Or(Boxed<Expr>, Boxed<Expr>),

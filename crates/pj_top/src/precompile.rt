@@ -38,7 +38,7 @@ fn file_name(alloc: Global, name: &str, behind: &str) -> Result<Text, NoMemory>
 {
     let mut file = String::from_str(alloc, name)?;
     file.push_str(behind)?;
-    Ok(Text::from_string(file))
+    Ok(Text::from_str(alloc, file.as_str())?)
 }
 
 /// The end of a command, unless there was no memory for its line.

@@ -2,8 +2,8 @@ use Rattle.std.proofs.Common.{◌≡◌, length}
 use Rattle.pj_reader.specs.Read.{Progress, kind_of}
 use Rattle.pj_reader.proofs.reader.read_all.Given as goal
 
-abbrev pub invariant-loop-token : goal.invariant-loop-token
-invariant-loop-token l = Progress l.fn.modules (kind_of l.fn.kind) l.fn.tokens l.rest l.reading
+abbrev pub invariant-loop-rest : goal.invariant-loop-rest
+invariant-loop-rest l = Progress l.fn.modules (kind_of l.fn.kind) l.fn.tokens l.rest l.reading
 
-abbrev pub decreases-loop-token : goal.decreases-loop-token
-decreases-loop-token l = length l.rest
+abbrev pub decreases-loop-rest : goal.decreases-loop-rest
+decreases-loop-rest l = length l.rest
