@@ -4,7 +4,7 @@
 The image has as many functions as fit; a second one is damaged in its last entry. Prints the milliseconds, the megabytes
 at most, and both as ratios: of the time to that of `sha256sum`, of the memory to the bytes. It takes no words and changes
 no file of the repository. Ends with 1 where a limit is missed. The program is built by `rt ci`, or by `rt run` in
-crates/pj_image_speed.
+crates/pj_speed.
 """
 import hashlib
 import itertools
@@ -52,7 +52,7 @@ def write(file, entries):
 
 
 def main():
-    decoder = program("pj_image_speed")
+    decoder = program("pj_speed")
     missed = False
     with tempfile.TemporaryDirectory() as folder:
         file = os.path.join(folder, "P.pimg")
@@ -63,7 +63,7 @@ def main():
             writer.join()
             size = os.path.getsize(file)
             with open(os.path.join(folder, "printed"), "w+b") as printed:
-                took, memory, status = min(timed([decoder, file, "P"], printed) for _ in range(TURNS))
+                took, memory, status = min(timed([decoder, f"image:P:{file}"], printed) for _ in range(TURNS))
                 printed.seek(0)
                 answer = printed.readline().decode().strip()
                 summed = min(timed(["sha256sum", file], printed)[0] for _ in range(TURNS))

@@ -3,7 +3,7 @@
 
 Prints the milliseconds, the megabytes at most, and both as ratios: of the time to that of `sha256sum`, of the memory to
 the bytes. It takes no words and changes no file of the repository. Ends with 1 where a limit is missed. The program is
-built by `rt run -- 1000` in crates/pj_tree_speed, or by `rt ci`.
+built by `rt run -- tree:1000` in crates/pj_speed, or by `rt ci`.
 """
 import os
 import subprocess
@@ -19,13 +19,13 @@ TURNS = 3
 
 
 def main():
-    reader = program("pj_tree_speed")
+    reader = program("pj_speed")
     with tempfile.TemporaryDirectory() as folder:
         tree = os.path.join(folder, "tree")
-        subprocess.run([reader, str(NODES), tree], stdout=subprocess.DEVNULL, check=True)
+        subprocess.run([reader, f"tree:{NODES}:{tree}"], stdout=subprocess.DEVNULL, check=True)
         size = os.path.getsize(tree)
         with open(os.path.join(folder, "printed"), "w+b") as printed:
-            took, memory, status = min(timed([reader, str(NODES)], printed) for _ in range(TURNS))
+            took, memory, status = min(timed([reader, f"tree:{NODES}"], printed) for _ in range(TURNS))
             printed.seek(0)
             same = all(line.endswith(b"the same: true") for line in printed.read().splitlines())
             summed = min(timed(["sha256sum", tree], printed)[0] for _ in range(TURNS))

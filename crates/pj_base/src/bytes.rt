@@ -5,7 +5,7 @@ use std::alloc::Global;
 use std::marker::Model;
 
 /// A list of bytes, over a `Vec`, which contracts see as the list.
-#[derive(Debug, Drop)]
+#[derive(Drop)]
 pub struct ByteList {
     bytes: Vec<u8>,
 }

@@ -62,7 +62,7 @@ pub trait Kind {
 }
 
 /// Types.
-#[derive(Clone, Copy, Debug, PartialEq, Eq)]
+#[derive(Clone, Copy, PartialEq, Eq)]
 pub struct KType;
 
 impl Kind for KType {
@@ -74,7 +74,7 @@ impl Kind for KType {
 }
 
 /// Functions.
-#[derive(Clone, Copy, Debug, PartialEq, Eq)]
+#[derive(Clone, Copy, PartialEq, Eq)]
 pub struct KFun;
 
 impl Kind for KFun {
@@ -86,7 +86,7 @@ impl Kind for KFun {
 }
 
 /// Methods.
-#[derive(Clone, Copy, Debug, PartialEq, Eq)]
+#[derive(Clone, Copy, PartialEq, Eq)]
 pub struct KMethod;
 
 impl Kind for KMethod {
@@ -98,7 +98,7 @@ impl Kind for KMethod {
 }
 
 /// Consts and globals.
-#[derive(Clone, Copy, Debug, PartialEq, Eq)]
+#[derive(Clone, Copy, PartialEq, Eq)]
 pub struct KBinding;
 
 impl Kind for KBinding {
@@ -110,7 +110,7 @@ impl Kind for KBinding {
 }
 
 /// Mutable objects.
-#[derive(Clone, Copy, Debug, PartialEq, Eq)]
+#[derive(Clone, Copy, PartialEq, Eq)]
 pub struct KObject;
 
 impl Kind for KObject {
@@ -122,7 +122,7 @@ impl Kind for KObject {
 }
 
 /// Records of compiled code.
-#[derive(Clone, Copy, Debug, PartialEq, Eq)]
+#[derive(Clone, Copy, PartialEq, Eq)]
 pub struct KRecord;
 
 impl Kind for KRecord {
@@ -134,7 +134,7 @@ impl Kind for KRecord {
 }
 
 /// Source trees.
-#[derive(Clone, Copy, Debug, PartialEq, Eq)]
+#[derive(Clone, Copy, PartialEq, Eq)]
 pub struct KTree;
 
 impl Kind for KTree {
@@ -150,7 +150,7 @@ impl Kind for KTree {
 pub const MAIN: u32 = 4_294_967_295;
 
 /// A thing of one kind: the number of its image, and its place among what that image has of the kind, from 0.
-#[derive(Clone, Copy, Debug, PartialEq, Eq)]
+#[derive(Clone, Copy, PartialEq, Eq)]
 pub struct Target<K: Kind> {
     pub image: u32,
     pub ordinal: u64,

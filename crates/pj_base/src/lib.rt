@@ -7,6 +7,7 @@ pub mod kinds;
 pub mod memory;
 pub mod names;
 pub mod numbers;
+pub mod release;
 mod short;
 pub mod text;
 

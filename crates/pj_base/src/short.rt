@@ -8,7 +8,7 @@ use std::str;
 const MOST: usize = 14;
 
 /// A text of at most 14 bytes.
-#[derive(Clone, Copy, Debug)]
+#[derive(Clone, Copy)]
 pub struct Short {
     bytes: [u8; 14],
     len: u8,

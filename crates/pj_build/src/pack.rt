@@ -26,7 +26,7 @@ use pj_tree::{PackageTree, TopItem};
 use std::alloc::Global;
 
 /// Why a package has no image.
-#[derive(Debug, Drop)]
+#[derive(Drop)]
 pub enum BuildFault {
     /// Its statements ended so, which has this line. It is never for want of memory.
     Ended { end: End, line: ByteList },
@@ -35,7 +35,7 @@ pub enum BuildFault {
 }
 
 /// What building a package gives.
-#[derive(Debug, Drop)]
+#[derive(Drop)]
 pub struct Packed {
     /// What its statements printed.
     pub printed: ByteList,

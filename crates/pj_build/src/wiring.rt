@@ -14,7 +14,7 @@ use sqlite_items::Items;
 use std::alloc::Global;
 
 /// The methods so far, the entries of their mentions, and where in the file stands what comes next.
-#[derive(Debug, Drop)]
+#[derive(Drop)]
 pub struct Wiring {
     pub methods: Items<Method>,
     pub entries: Items<Entry>,

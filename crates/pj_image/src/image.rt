@@ -6,7 +6,7 @@ use pj_tree::TreeNode;
 use sqlite_items::Items;
 
 /// An image: a field for each of the twelve sections of its file.
-#[derive(Debug, Drop)]
+#[derive(Drop)]
 pub struct Image {
     pub head: Head,
     pub strings: Items<ShortText>,

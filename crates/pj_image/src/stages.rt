@@ -8,7 +8,7 @@ use pj_tree::TreeNode;
 use sqlite_items::Items;
 
 /// Sections 1 to 6: what the package is and declares.
-#[derive(Debug, Drop)]
+#[derive(Drop)]
 pub struct Declared {
     pub head: Head,
     pub strings: Items<ShortText>,
@@ -19,7 +19,7 @@ pub struct Declared {
 }
 
 /// Sections 7 and 8: trees and methods, and the byte offset of the list of methods in the file.
-#[derive(Debug, Drop)]
+#[derive(Drop)]
 pub struct Bodies {
     pub trees: Items<TreeNode>,
     pub place: u64,
@@ -27,7 +27,7 @@ pub struct Bodies {
 }
 
 /// Sections 9 to 12: what is compiled, and what the mentions name.
-#[derive(Debug, Drop)]
+#[derive(Drop)]
 pub struct Ending {
     pub directives: Items<Directive>,
     pub records: Items<CodeRecord>,

@@ -23,7 +23,7 @@ const LONGEST_NAME: usize = 255;
 
 /// The piece at the front of a text: a token, or None for blank space, a comment or a dropped line end; and its number of
 /// characters.
-#[derive(Debug, Drop)]
+#[derive(Drop)]
 pub struct Piece {
     pub what: Option<TokenKind>,
     pub size: usize,

@@ -8,7 +8,7 @@ use pj_words::Word;
 use sqlite_items::Items;
 
 /// What a token is. A name has its text, and a string its value, in which escapes are replaced.
-#[derive(Debug, Drop)]
+#[derive(Drop)]
 pub enum TokenKind {
     Name(Text),
     Integer(i64),
@@ -22,7 +22,7 @@ pub enum TokenKind {
 
 /// A token, with the places of its first byte and of the byte behind it, and whether blank space, a comment or a dropped
 /// line end stands directly before it.
-#[derive(Debug, Drop)]
+#[derive(Drop)]
 pub struct Token {
     pub what: TokenKind,
     pub start: usize,

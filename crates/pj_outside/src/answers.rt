@@ -5,7 +5,7 @@ use std::error::Error;
 use std::fmt;
 
 /// What a depot answers to a read.
-#[derive(Debug, Drop)]
+#[derive(Drop)]
 pub enum ReadAnswer {
     /// All bytes of the file.
     Bytes(Vec<u8>),

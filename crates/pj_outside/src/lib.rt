@@ -13,8 +13,6 @@ pub mod sink;
 pub mod stdout;
 pub mod streams;
 pub mod sure;
-#[cfg(test)]
-mod tests;
 
 pub use answers::{ReadAnswer, SinkFault, WriteFault};
 pub use depot::Depot;

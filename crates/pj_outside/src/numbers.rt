@@ -6,7 +6,7 @@ use std::alloc::Global;
 use std::marker::Model;
 
 /// A list of numbers, over a `Vec`, which contracts see as the list.
-#[derive(Debug, Drop)]
+#[derive(Drop)]
 pub struct NumberList {
     numbers: Vec<u64>,
 }

@@ -7,7 +7,7 @@ use std::alloc::Global;
 use std::marker::Model;
 
 /// A list of bytes in a room that was reserved when it was made. Contracts see the bytes and the room.
-#[derive(Debug, Drop)]
+#[derive(Drop)]
 pub struct ByteRoom {
     bytes: Vec<u8>,
     room: usize,

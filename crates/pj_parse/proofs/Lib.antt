@@ -1,1 +1,5 @@
+pub mod Called
+pub mod Fronts
 pub mod Readings
+pub mod Scripts
+pub mod TextReadings

@@ -25,8 +25,8 @@ use Rattle.std.specs.Prelude.{codes}
 use Rattle.pj_grammar.specs.Texts.{Kind, script, «package»}
 use Rattle.pj_tree.specs.declared.item.ScriptTree.{ScriptTree}
 use Rattle.pj_tree.specs.declared.item.PackageTree.{PackageTree}
-use Rattle.pj_text.specs.Texts.{IsPackage, IsScript}
-use Rattle.pj_text.proofs.Scripts.{no-fault, no-package-fault}
+use Rattle.pj_parse.specs.Texts.{IsPackage, IsScript}
+use Rattle.pj_parse.proofs.Scripts.{no-fault, no-package-fault}
 use Rattle.pj_grammar.specs.Theorems.{Complete, Completion, DeepFaults, GrammarFaults, NeedIsNesting, Sound}
 use Rattle.pj_grammar.proofs.Faulting.{deep-faults, grammar-faults}
 use Rattle.pj_grammar.proofs.Leading.{completion}
@@ -34,8 +34,8 @@ use Rattle.pj_grammar.proofs.Nesting.{need-nesting}
 use Rattle.pj_grammar.proofs.Rising.{monotone}
 use Rattle.pj_grammar.proofs.Sounding.{sound}
 use Rattle.pj_grammar.proofs.Whole.{whole}
-use Rattle.pj_text.specs.Scoped.{scope_fault}
-use Rattle.pj_text.specs.Texts.{IsFault, IsSyntax, Stands, deep_kind, no_utf8, no_token, no_text, too_deep, out_of_scope}
+use Rattle.pj_parse.specs.Scoped.{scope_fault}
+use Rattle.pj_parse.specs.Texts.{IsFault, IsSyntax, Stands, deep_kind, no_utf8, no_token, no_text, too_deep, out_of_scope}
 use Rattle.pj_parse.specs.Answers.{HasBase, OutOfScope, Refuses, Stops, told}
 use Rattle.pj_reader.specs.Read.{Accepts, Before, IsEndless, IsTooDeep, ends_text}
 use Rattle.pj_reader.specs.Read as read

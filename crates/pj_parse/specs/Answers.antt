@@ -8,7 +8,7 @@ use Rattle.pj_lex.specs.declared.token.Token.{Token}
 use Rattle.pj_grammar.specs.Modules.{Modules}
 use Rattle.pj_grammar.specs.Texts.{Kind}
 use Rattle.pj_grammar.specs.Theorems.{with_base}
-use Rattle.pj_text.specs.Texts.{IsFault}
+use Rattle.pj_parse.specs.Texts.{IsFault}
 use Rattle.pj_reader.specs.declared.fault.ReadFault.{ReadFault}
 use Rattle.pj_reader.specs.declared.fault.ReadFault.TheVariants as unread
 use Rattle.pj_reader.specs.Read as read

@@ -4,11 +4,12 @@
 ghost use Rattle.pj_grammar.specs.Texts.{script, «package»};
 ghost use Rattle.pj_lex.specs.Lexed.{IsSyntax};
 ghost use Rattle.pj_parse.specs.Answers.{Refuses};
-ghost use Rattle.pj_text.specs.Texts.{IsPackage, IsScript};
+ghost use Rattle.pj_parse.specs.Texts.{IsPackage, IsScript};
 ghost use Rattle.pj_tree.specs.declared.item.PackageTree.{PackageTree};
 ghost use Rattle.pj_tree.specs.declared.item.ScriptTree.{ScriptTree};
 ghost use Rattle.std.specs.Prelude.{◌≡◌, IfErr, IfOk, codes};
 
+pub mod laws;
 mod syntax;
 
 pub use pj_lex::{SyntaxFault, SyntaxKind};

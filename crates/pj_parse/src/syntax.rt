@@ -3,14 +3,14 @@ ghost use Rattle.pj_grammar.specs.Texts.{script, «package»};
 ghost use Rattle.pj_grammar.specs.declared.mode.Parsed.TheVariants as parsed;
 ghost use Rattle.pj_parse.specs.Answers.{HasBase, OutOfScope, Refuses, Stops, told};
 ghost use Rattle.pj_reader.specs.Read.{Accepts};
-ghost use Rattle.pj_text.specs.Scoped.{kind_of, scope_fault};
-ghost use Rattle.pj_text.specs.Texts.{IsSyntax};
+ghost use Rattle.pj_parse.specs.Scoped.{kind_of, scope_fault};
+ghost use Rattle.pj_parse.specs.Texts.{IsSyntax};
 ghost use Rattle.std.specs.Prelude.{◌≡◌, None, codes, IfErr, IfOk};
 
 use pj_faults::{Fault, ScopeKind, package_fault, script_fault};
 use pj_grammar::Parsed;
 use pj_lex::{SyntaxFault, SyntaxKind, TokenList, tokens};
-use pj_making::modules::{ModuleNames, modules_of};
+use pj_read_makers::modules::{ModuleNames, modules_of};
 use pj_reader::fault::{ReadFault, TextKind};
 use pj_reader::reader::read;
 use pj_syntax::{Package, Script};

@@ -9,14 +9,14 @@ use std::alloc::Global;
 use std::marker::Model;
 
 /// Where a text's bytes are: in the value itself, where they are few, else in memory of their own.
-#[derive(Debug, Drop)]
+#[derive(Drop)]
 enum Kept {
     InPlace(ArrayString<15>),
     OnHeap(String),
 }
 
 /// A text, which contracts see as the list of its bytes. A short one takes no memory of its own.
-#[derive(Debug, Drop)]
+#[derive(Drop)]
 pub struct ShortText {
     kept: Kept,
 }

@@ -9,21 +9,21 @@ use crate::short_text::ShortText;
 use sqlite_items::Items;
 
 /// Another package whose image this one was built over.
-#[derive(Debug, Drop)]
+#[derive(Drop)]
 pub struct Dependency {
     pub name: ShortText,
     pub identity: [u8; 32],
 }
 
 /// The package's name, and its dependencies in order.
-#[derive(Debug, Drop)]
+#[derive(Drop)]
 pub struct Head {
     pub name: ShortText,
     pub dependencies: Items<Dependency>,
 }
 
 /// What a type is: abstract, or a struct whose values can't or can be changed.
-#[derive(Clone, Copy, Debug, PartialEq, Eq)]
+#[derive(Clone, Copy, PartialEq, Eq)]
 pub enum TypeForm {
     Abstract,
     Immutable,
@@ -44,14 +44,14 @@ impl TypeForm {
 }
 
 /// A field of a struct: its name, and a mention of its type.
-#[derive(Clone, Copy, Debug, PartialEq, Eq)]
+#[derive(Clone, Copy, PartialEq, Eq)]
 pub struct FieldDef {
     pub name: u32,
     pub declared: u32,
 }
 
 /// A type: its name, its form, a mention of its parent, and its fields.
-#[derive(Debug, Drop)]
+#[derive(Drop)]
 pub struct TypeDef {
     pub name: u32,
     pub form: TypeForm,
@@ -60,20 +60,20 @@ pub struct TypeDef {
 }
 
 /// A function that the package binds: its name.
-#[derive(Clone, Copy, Debug, PartialEq, Eq)]
+#[derive(Clone, Copy, PartialEq, Eq)]
 pub struct FunDef {
     pub name: u32,
 }
 
 /// Whether a binding is a constant or a global.
-#[derive(Clone, Copy, Debug, PartialEq, Eq)]
+#[derive(Clone, Copy, PartialEq, Eq)]
 pub enum BindingForm {
     Const,
     Global,
 }
 
 /// A value. A function, an object and a struct's type are mentions.
-#[derive(Debug, Drop)]
+#[derive(Drop)]
 pub enum Value {
     Nothing,
     False,
@@ -86,7 +86,7 @@ pub enum Value {
 }
 
 /// A name that the package binds to a value.
-#[derive(Debug, Drop)]
+#[derive(Drop)]
 pub struct Binding {
     pub name: u32,
     pub form: BindingForm,
@@ -94,14 +94,14 @@ pub struct Binding {
 }
 
 /// A mutable object: a mention of its type, and the values of its fields.
-#[derive(Debug, Drop)]
+#[derive(Drop)]
 pub struct Object {
     pub declared: u32,
     pub values: Items<Value>,
 }
 
 /// A method: a mention of its function, mentions of its parameters' types, and the number of the tree of its body.
-#[derive(Debug, Drop)]
+#[derive(Drop)]
 pub struct Method {
     pub fun: u32,
     pub types: Items<u32>,
@@ -109,7 +109,7 @@ pub struct Method {
 }
 
 /// A request to compile: a mention of a function, and mentions of the arguments' types.
-#[derive(Debug, Drop)]
+#[derive(Drop)]
 pub struct Directive {
     pub fun: u32,
     pub types: Items<u32>,
@@ -117,7 +117,7 @@ pub struct Directive {
 
 /// What is known of a value's type: that there is no value, that the type is one of one to four, that it is below an
 /// abstract one, or nothing.
-#[derive(Debug, Drop)]
+#[derive(Drop)]
 pub enum Element {
     Bottom,
     OneOf(Items<u32>),
@@ -126,7 +126,7 @@ pub enum Element {
 }
 
 /// What a call picked when the record was made: a method, none, or none of several.
-#[derive(Clone, Copy, Debug, PartialEq, Eq)]
+#[derive(Clone, Copy, PartialEq, Eq)]
 pub enum Outcome {
     One(u32),
     NoneMatch,
@@ -135,7 +135,7 @@ pub enum Outcome {
 
 /// What a record depends on: that a call of a function with arguments of these types picks this, or that calls with
 /// arguments of these elements can pick these methods.
-#[derive(Debug, Drop)]
+#[derive(Drop)]
 pub enum Edge {
     Call {
         fun: u32,
@@ -151,7 +151,7 @@ pub enum Edge {
 
 /// A method compiled for parameters of these elements: the result's element, what it depends on, the records that its
 /// code enters, how many registers it has, and how many instructions.
-#[derive(Debug, Drop)]
+#[derive(Drop)]
 pub struct CodeRecord {
     pub method: u32,
     pub params: Items<Element>,
@@ -163,5 +163,5 @@ pub struct CodeRecord {
 }
 
 /// One word of a record's code.
-#[derive(Clone, Copy, Debug, PartialEq, Eq)]
+#[derive(Clone, Copy, PartialEq, Eq)]
 pub struct CodeWord(pub u32);

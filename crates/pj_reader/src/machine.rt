@@ -5,28 +5,28 @@ ghost use Rattle.pj_grammar.specs.Frames.{at as state_at, guarded};
 ghost use Rattle.pj_grammar.specs.Machine.{expect_sign, step, step_at};
 ghost use Rattle.pj_grammar.specs.Statements.{begins_bounds};
 ghost use Rattle.pj_grammar.specs.Tokens.{spot};
-ghost use Rattle.pj_frames.specs.Places.{place_of};
+ghost use Rattle.pj_read_frames.specs.Places.{place_of};
 
 use crate::items::{
     after_declared, after_use, directive_end, header, package_end, package_named, package_start,
 };
 use crate::lines::{after_return, eval_name_then, global_assign, line, payload};
 use pj_base::{NoMemory, Text};
-use pj_ends::ends::{after_line, is_close};
-use pj_ends::lines::closed_line;
-use pj_ends::params::start_field;
-use pj_frames::place::Place;
-use pj_frames::reading::{Answer, Reading, at, gone, guarded_over, let_go, over, parts};
-use pj_frames::stack::Stack;
+use pj_read_closing::ends::{after_line, is_close};
+use pj_read_closing::lines::closed_line;
+use pj_read_closing::params::start_field;
+use pj_read_frames::place::Place;
+use pj_read_frames::reading::{Answer, Reading, at, gone, guarded_over, let_go, over, parts};
+use pj_read_frames::stack::Stack;
 use pj_grammar::{Frame, Header, Line, Mode, Purpose};
 use pj_lex::{Sign, Token, TokenKind};
-use pj_making::modules::ModuleNames;
-use pj_making::tokens::begins_bounds;
-use pj_operands::begin::{
+use pj_read_makers::modules::ModuleNames;
+use pj_read_makers::tokens::begins_bounds;
+use pj_read_operands::begin::{
     argument, base_operator, field_name, member_name, operand, parameter, path_start, short_assign,
     types,
 };
-use pj_operands::have::have;
+use pj_read_operands::have::have;
 use pj_syntax::{Path, Spot, SpotList};
 use sqlite_items::{Boxed, Items};
 use std::alloc::Global;

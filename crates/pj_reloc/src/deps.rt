@@ -5,7 +5,7 @@ use pj_base::KindTag;
 use sqlite_items::Items;
 
 /// An image's number in the session, and how many it has of each kind.
-#[derive(Clone, Copy, Debug, PartialEq, Eq)]
+#[derive(Clone, Copy, PartialEq, Eq)]
 pub struct Counts {
     pub image: u32,
     pub types: u32,
@@ -35,7 +35,7 @@ impl Counts {
 }
 
 /// The images that an image's entries may name, by dependency number: Base, its dependencies in order, and itself.
-#[derive(Debug, Drop)]
+#[derive(Drop)]
 pub struct DepTable {
     pub images: Items<Counts>,
 }

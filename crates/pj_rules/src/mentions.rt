@@ -9,7 +9,7 @@ use sqlite_items::Items;
 use std::alloc::Global;
 
 /// A tree that another one names by its number: a payload that is evaluated, or the body of a method with so many parameters.
-#[derive(Clone, Copy, Debug, PartialEq, Eq)]
+#[derive(Clone, Copy, PartialEq, Eq)]
 pub enum Mention {
     Payload(u32),
     Body(u32, usize),

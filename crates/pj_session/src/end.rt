@@ -12,7 +12,7 @@ use pj_base::Text;
 use std::alloc::Global;
 
 /// Why an item, or the start of an image, ended before its end.
-#[derive(Debug, Drop)]
+#[derive(Drop)]
 pub enum End {
     /// By an error that no one caught.
     Error(ErrorValue),

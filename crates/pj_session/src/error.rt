@@ -11,7 +11,7 @@ use pj_base::{ByteList, NoMemory, Text};
 use std::alloc::Global;
 
 /// An error that no one caught.
-#[derive(Debug, Drop)]
+#[derive(Drop)]
 pub enum ErrorValue {
     /// A call of a function with so many integers, for which it has no method.
     NoMethod {

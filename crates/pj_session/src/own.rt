@@ -8,14 +8,14 @@ use crate::thing::{Code, Thing};
 use pj_tree::{Expr, SymList};
 
 /// A function: its parameters, and its expression. All names are held.
-#[derive(Debug, Drop)]
+#[derive(Drop)]
 pub struct Definition {
     pub params: SymList,
     pub body: Expr,
 }
 
 /// What a name of the module that runs is.
-#[derive(Debug, Drop)]
+#[derive(Drop)]
 pub enum Own {
     Function(Definition),
     Constant(i64),

@@ -23,7 +23,7 @@ use pj_outside::{Depot, ReadAnswer};
 use std::alloc::Global;
 
 /// Why `using` a package ended before its end.
-#[derive(Debug, Drop)]
+#[derive(Drop)]
 pub enum UsingFault {
     /// The start of the image ended so. It is never for want of memory.
     Ended(End),

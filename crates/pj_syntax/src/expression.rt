@@ -2,7 +2,7 @@ use pj_base::Text;
 use sqlite_items::{Boxed, Items};
 
 /// A name of a text, and the place of its first byte.
-#[derive(Debug, Drop)]
+#[derive(Drop)]
 pub struct Spot {
     pub text: Text,
     pub at: usize,
@@ -11,7 +11,7 @@ pub struct Spot {
 pub type SpotList = Items<Spot>;
 
 /// A name, with the module that is written before it. An operator is a name of the module `Base`.
-#[derive(Debug, Drop)]
+#[derive(Drop)]
 pub enum Path {
     Bare(Spot),
     Of(Boxed<Spot>, Spot),
@@ -21,7 +21,7 @@ pub type PathList = Items<Path>;
 
 /// An argument, and the place of its first byte.
 #[cycle(expression)]
-#[derive(Debug, Drop)]
+#[derive(Drop)]
 pub struct Argument {
     pub at: usize,
     pub value: Expr,
@@ -33,7 +33,7 @@ pub type ArgumentList = Items<Argument>;
 /// and `x !== y`, which is `x === y ? false : true`. `Latest` is a call of `invokelatest`, with the function as its first
 /// argument.
 #[cycle(expression)]
-#[derive(Debug, Drop)]
+#[derive(Drop)]
 pub enum Expr {
     Nothing,
     False,

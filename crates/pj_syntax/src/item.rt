@@ -5,7 +5,7 @@ use sqlite_items::Items;
 pub type ItemList = Items<Item>;
 
 /// One item at the top level of a script or a package.
-#[derive(Debug, Drop)]
+#[derive(Drop)]
 pub enum Item {
     Using(SpotList),
     Abstract {
@@ -32,7 +32,7 @@ pub enum Item {
 }
 
 /// The text of a package.
-#[derive(Debug, Drop)]
+#[derive(Drop)]
 pub struct Package {
     pub name: Spot,
     pub uses: SpotList,
@@ -40,7 +40,7 @@ pub struct Package {
 }
 
 /// The text of a script.
-#[derive(Debug, Drop)]
+#[derive(Drop)]
 pub struct Script {
     pub items: ItemList,
 }

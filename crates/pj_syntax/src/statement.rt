@@ -2,7 +2,7 @@ use crate::expression::{Expr, Path, Spot};
 use sqlite_items::{Boxed, Items};
 
 /// A parameter or a field: the place of its first byte, its name and its type. A field has a name.
-#[derive(Debug, Drop)]
+#[derive(Drop)]
 pub struct Param {
     pub at: usize,
     pub name: Option<Spot>,
@@ -17,7 +17,7 @@ pub type Block = Items<Stmt>;
 /// `continue` is that of the word. `elseif` is an `if` in the other branch, and a branch that isn't written is empty. What two
 /// expressions make is boxed, so that a statement takes little room.
 #[cycle(statement)]
-#[derive(Debug, Drop)]
+#[derive(Drop)]
 pub enum Stmt {
     Value(Expr),
     Set(Spot, Expr),
@@ -34,7 +34,7 @@ pub enum Stmt {
 
 /// The definition of a method. A short one has its expression as its only statement.
 #[cycle(statement)]
-#[derive(Debug, Drop)]
+#[derive(Drop)]
 pub struct Function {
     pub path: Path,
     pub params: ParamList,
@@ -43,7 +43,7 @@ pub struct Function {
 
 /// What `@eval` evaluates.
 #[cycle(statement)]
-#[derive(Debug, Drop)]
+#[derive(Drop)]
 pub enum Payload {
     Def(Function),
     Set(Spot, Expr),

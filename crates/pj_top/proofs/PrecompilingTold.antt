@@ -10,8 +10,8 @@ use Rattle.pj_lex.specs.declared.fault.SyntaxKind.{SyntaxKind}
 use Rattle.pj_tree.specs.declared.item.PackageTree.{PackageTree}
 use Rattle.pj_plain.specs.Forms.{package_form}
 use Rattle.pj_plain.specs.Held.{held_package}
-use Rattle.pj_text.specs.Texts.{IsPackage, IsPackageFault}
-use Rattle.pj_text.proofs.Scripts.{no-package-fault, one-package}
+use Rattle.pj_parse.specs.Texts.{IsPackage, IsPackageFault}
+use Rattle.pj_parse.proofs.Scripts.{no-package-fault, one-package}
 use Rattle.pj_top.specs.Claims.{IsBuilt, WritesImage}
 use Rattle.pj_top.specs.Endings.{PackageEnds, absent, long, faulty, unbuilt, builds, building, built_line, built_printed, built_status, missing_line, too_long_line, syntax_line, unbuilt_line, text_file, text_limit}
 use Rattle.pj_top.specs.Positions.{position_of}
@@ -25,7 +25,7 @@ use Rattle.pj_top.specs.declared.status.Status.TheVariants as ends
 use Rattle.pj_top.specs.declared.stop.Stop.{Stop}
 use Rattle.pj_top.specs.declared.stop.Stop.TheVariants as stop
 use Rattle.pj_top.specs.declared.stop.Ending.{Ending}
-use Rattle.pj_text.proofs.Called.{called}
+use Rattle.pj_parse.proofs.Called.{called}
 
 -- ---- endings by their lines
 

@@ -8,7 +8,7 @@ use Rattle.pj_lex.specs.declared.fault.SyntaxKind.{SyntaxKind}
 use Rattle.pj_tree.specs.declared.item.ScriptTree.{ScriptTree}
 use Rattle.pj_plain.specs.Held.{held_script}
 use Rattle.pj_plain.specs.Forms.{script_form}
-use Rattle.pj_text.specs.Texts.{IsScript, IsScriptFault}
+use Rattle.pj_parse.specs.Texts.{IsScript, IsScriptFault}
 use Rattle.pj_top.specs.Endings.{ScriptEnds, absent, long, faulty, unbuilt, runs, text_limit, meaning, printed_of, ending_of, status_of, missing_line, too_long_line, syntax_line, unbuilt_line}
 use Rattle.pj_top.specs.Positions.{position_of}
 use Rattle.pj_top.specs.Running.{EndsAs, HasScript, ReadsAs}

@@ -10,9 +10,9 @@ use Rattle.pj_tree.specs.declared.item.PackageTree.{PackageTree}
 use Rattle.pj_tree.specs.declared.item.ScriptTree.{ScriptTree}
 use Rattle.pj_plain.specs.Held.{held_package, held_script}
 use Rattle.pj_plain.specs.Forms.{package_form, script_form}
-use Rattle.pj_text.specs.Texts.{IsPackage, IsPackageFault, IsScript, IsScriptFault}
-use Rattle.pj_text.proofs.Readings.{one-fault}
-use Rattle.pj_text.proofs.Scripts.{no-fault, no-package-fault, one-package, one-script, one-script-fault}
+use Rattle.pj_parse.specs.Texts.{IsPackage, IsPackageFault, IsScript, IsScriptFault}
+use Rattle.pj_parse.proofs.TextReadings.{one-fault}
+use Rattle.pj_parse.proofs.Scripts.{no-fault, no-package-fault, one-package, one-script, one-script-fault}
 use Rattle.pj_top.specs.Positions.{position_of}
 use Rattle.pj_top.specs.Commands.{Command, IsPrecompile, IsRun}
 use Rattle.pj_top.specs.Endings.{ScriptEnds, PackageEnds, CommandEnds, no_command, run, precompile, text_limit, text_file, syntax_line, ending_of, printed_of, status_of, building, built_line, built_printed, built_status}

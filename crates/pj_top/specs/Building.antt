@@ -9,7 +9,7 @@ use Rattle.pj_outside.specs.Stored.{Files, Keeps, KeepsRest, Stores}
 use Rattle.pj_tree.specs.declared.item.PackageTree.{PackageTree}
 use Rattle.pj_plain.specs.Forms.{package_form}
 use Rattle.pj_plain.specs.Held.{held_package}
-use Rattle.pj_text.specs.Texts.{IsPackage}
+use Rattle.pj_parse.specs.Texts.{IsPackage}
 use Rattle.pj_session.specs.declared.end.End.{End as StatementsEnd}
 use Rattle.pj_session.specs.declared.end.End.TheVariants as statements
 use Rattle.pj_build.specs.declared.pack.BuildFault.{BuildFault}

@@ -8,7 +8,7 @@ use Rattle.pj_meaning.specs.State.{State}
 use Rattle.pj_meaning.specs.Using.{Image, Holds, image_file}
 use Rattle.pj_content.specs.Readings.{reading_of}
 use Rattle.pj_tree.specs.declared.item.PackageTree.{PackageTree}
-use Rattle.pj_text.specs.Texts.{IsPackage}
+use Rattle.pj_parse.specs.Texts.{IsPackage}
 use Rattle.pj_outside.specs.Stored.{Files, Keeps, KeepsRest, Stores}
 use Rattle.pj_outside.specs.Faults.{Rose}
 use Rattle.pj_top.specs.Commands.{Command, IsPrecompile, IsRun}

@@ -17,7 +17,7 @@ use Rattle.pj_tree.specs.declared.item.ScriptTree.{ScriptTree}
 use Rattle.pj_content.specs.Readings.{readings}
 use Rattle.pj_plain.specs.Forms.{package_form, script_form}
 use Rattle.pj_plain.specs.Held.{held_package, held_script}
-use Rattle.pj_text.specs.Texts.{IsPackage, IsPackageFault, IsScript, IsScriptFault}
+use Rattle.pj_parse.specs.Texts.{IsPackage, IsPackageFault, IsScript, IsScriptFault}
 use Rattle.pj_top.specs.declared.position.Position.{Position}
 use Rattle.pj_top.specs.Positions.{position_of}
 use Rattle.pj_top.specs.Commands.{Command, IsPrecompile, IsRun}

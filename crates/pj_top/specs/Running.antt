@@ -11,7 +11,7 @@ use Rattle.pj_outside.specs.Stored.{Files}
 use Rattle.pj_tree.specs.declared.item.ScriptTree.{ScriptTree}
 use Rattle.pj_plain.specs.Forms.{known_behind, script_form, used_behind}
 use Rattle.pj_plain.specs.Held.{held_script}
-use Rattle.pj_text.specs.Texts.{IsScript}
+use Rattle.pj_parse.specs.Texts.{IsScript}
 use Rattle.pj_session.specs.Good.{Good}
 use Rattle.pj_session.specs.OwnItems.{known_in}
 use Rattle.pj_session.specs.Seen.{events_of}

@@ -26,7 +26,7 @@ use pj_tree::PackageTree;
 use std::alloc::Global;
 
 /// What reading the text of a package came to: a tree that can be built, or the end of the command.
-#[derive(Debug, Drop)]
+#[derive(Drop)]
 enum Found {
     Tree(PackageTree),
     Ends(Ending),

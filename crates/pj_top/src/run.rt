@@ -9,7 +9,7 @@ ghost use Rattle.pj_outside.specs.Written.{Puts};
 ghost use Rattle.pj_content.specs.Readings.{readings};
 ghost use Rattle.pj_plain.specs.Forms.{known_behind, script_form};
 ghost use Rattle.pj_plain.specs.Held.{held_item, held_script, held_text};
-ghost use Rattle.pj_text.specs.Texts.{IsScript};
+ghost use Rattle.pj_parse.specs.Texts.{IsScript};
 ghost use Rattle.pj_session.specs.Good.{Good};
 ghost use Rattle.pj_session.specs.OwnItems.{known_in};
 ghost use Rattle.pj_session.specs.Seen.{events_of, state_seen};

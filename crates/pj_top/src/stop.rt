@@ -13,14 +13,14 @@ pub struct Mistake {
 }
 
 /// How a command ended whose output stands as it should: the line that is still to be put, which may be empty, and the status.
-#[derive(Debug, Drop)]
+#[derive(Drop)]
 pub struct Ending {
     pub line: ByteList,
     pub status: Status,
 }
 
 /// Why a call stopped with its output cut short.
-#[derive(Debug, Drop)]
+#[derive(Drop)]
 pub enum Stop {
     /// The depot failed at this file.
     DepotFailed { file: Text },

@@ -9,7 +9,7 @@ pub type TextList = Items<Text>;
 pub type ItemList = Items<TopItem>;
 
 /// One item at the top level of a script or a package.
-#[derive(Debug, Drop)]
+#[derive(Drop)]
 pub enum TopItem {
     Using(SymList),
     AbstractDef {
@@ -37,7 +37,7 @@ pub enum TopItem {
 }
 
 /// The text of a package.
-#[derive(Debug, Drop)]
+#[derive(Drop)]
 pub struct PackageTree {
     pub name: Text,
     pub uses: TextList,
@@ -45,7 +45,7 @@ pub struct PackageTree {
 }
 
 /// The text of a script.
-#[derive(Debug, Drop)]
+#[derive(Drop)]
 pub struct ScriptTree {
     pub items: ItemList,
 }

@@ -10,7 +10,7 @@ use sqlite_items::Items;
 use std::alloc::Global;
 
 /// The next free number, and the trees that got the numbers before it, in their order.
-#[derive(Debug, Drop)]
+#[derive(Drop)]
 pub struct Numbering {
     pub next: u32,
     pub later: TreeList,

@@ -2,7 +2,7 @@ use pj_base::Text;
 use sqlite_items::{Boxed, Items};
 
 /// A name or a string: the text itself, or its number among the strings of an image.
-#[derive(Debug, Drop)]
+#[derive(Drop)]
 pub enum Sym {
     Text(Text),
     Number(u32),
@@ -13,7 +13,7 @@ pub type SymList = Items<Sym>;
 pub type ExprList = Items<Expr>;
 
 /// An expression. The first name of a Global or a Call is the module before the name, or empty.
-#[derive(Debug, Drop)]
+#[derive(Drop)]
 pub enum Expr {
     Nothing,
     False,
@@ -33,14 +33,14 @@ pub enum Expr {
 }
 
 /// A type as a text names it. The module is empty where none is written.
-#[derive(Debug, Drop)]
+#[derive(Drop)]
 pub struct TypeRef {
     pub module: Sym,
     pub name: Sym,
 }
 
 /// A parameter or a field.
-#[derive(Debug, Drop)]
+#[derive(Drop)]
 pub struct Param {
     pub name: Sym,
     pub declared: TypeRef,
@@ -52,7 +52,7 @@ pub type Block = Items<Stmt>;
 
 /// A statement. While and For carry the names that their scope introduces.
 #[cycle(tree)]
-#[derive(Debug, Drop)]
+#[derive(Drop)]
 pub enum Stmt {
     Value(Expr),
     SetLocal(Sym, Expr),
@@ -69,7 +69,7 @@ pub enum Stmt {
 
 /// A tree that another one names: the tree itself, or its number among the trees of an image.
 #[cycle(tree)]
-#[derive(Debug, Drop)]
+#[derive(Drop)]
 pub enum Part {
     Held(Boxed<TreeNode>),
     Number(u32),
@@ -77,7 +77,7 @@ pub enum Part {
 
 /// A tree that is numbered by itself.
 #[cycle(tree)]
-#[derive(Debug, Drop)]
+#[derive(Drop)]
 pub enum TreeNode {
     Body(Body),
     Payload(Payload),
@@ -85,7 +85,7 @@ pub enum TreeNode {
 
 /// The body of a method: its parameters' names, the names that it introduces besides, and its statements.
 #[cycle(tree)]
-#[derive(Debug, Drop)]
+#[derive(Drop)]
 pub struct Body {
     pub params: SymList,
     pub introduced: SymList,
@@ -94,7 +94,7 @@ pub struct Body {
 
 /// The definition of a method.
 #[cycle(tree)]
-#[derive(Debug, Drop)]
+#[derive(Drop)]
 pub struct DefTree {
     pub module: Sym,
     pub fun: Sym,
@@ -104,7 +104,7 @@ pub struct DefTree {
 
 /// What `@eval` evaluates.
 #[cycle(tree)]
-#[derive(Debug, Drop)]
+#[derive(Drop)]
 pub enum Payload {
     Def(DefTree),
     SetBinding { name: Sym, value: Expr },

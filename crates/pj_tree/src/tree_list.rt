@@ -6,7 +6,7 @@ use std::alloc::Global;
 use std::marker::Model;
 
 /// A list of trees, which contracts see as the list.
-#[derive(Debug, Drop)]
+#[derive(Drop)]
 pub struct TreeList {
     trees: Vec<TreeNode>,
 }

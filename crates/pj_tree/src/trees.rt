@@ -14,7 +14,7 @@ use std::alloc::Global;
 use std::marker::Model;
 
 /// The bodies and payloads of each image, and those that the run itself adds, each by its place in its list.
-#[derive(Debug, Drop)]
+#[derive(Drop)]
 pub struct Trees {
     images: Vec<TreeList>,
     main: TreeList,

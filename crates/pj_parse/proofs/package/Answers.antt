@@ -1,6 +1,6 @@
 use Rattle.std.proofs.Common.{◌≡◌, ◌∙◌, sym}
 use Rattle.std.proofs.lemmas.Result.{err_from_is_err_and}
-use Rattle.pj_text.proofs.Scripts.{one-package}
+use Rattle.pj_parse.proofs.Scripts.{one-package}
 use Rattle.pj_parse.proofs.Readings.{no-package}
 use Rattle.pj_parse.proofs.package.Goals as goal
 

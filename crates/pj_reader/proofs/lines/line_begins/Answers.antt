@@ -1,7 +1,7 @@
 use Rattle.std.proofs.Common.{Ok}
 use Rattle.pj_words.specs.declared.word.Word.TheVariants as words
 use Rattle.pj_grammar.specs.Machine.{line_word}
-use Rattle.pj_frames.specs.Places.{place_of}
+use Rattle.pj_read_frames.specs.Places.{place_of}
 use Rattle.pj_reader.proofs.Moving.{moved}
 use Rattle.pj_reader.proofs.lines.line_begins.Goals as goal
 

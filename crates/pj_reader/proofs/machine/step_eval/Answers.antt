@@ -1,7 +1,7 @@
 use Rattle.std.proofs.Common.{Ok}
 use Rattle.pj_grammar.specs.declared.mode.Mode.TheVariants as modes
 use Rattle.pj_grammar.specs.Machine.{step_at}
-use Rattle.pj_frames.specs.Places.{place_of}
+use Rattle.pj_read_frames.specs.Places.{place_of}
 use Rattle.pj_reader.proofs.Moving.{moved}
 use Rattle.pj_reader.proofs.machine.step_eval.Goals as goal
 

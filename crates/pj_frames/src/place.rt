@@ -1,7 +1,0 @@
-/// Where a token stands: its first byte, the byte behind it, and whether blank space stands directly before it.
-#[derive(Clone, Copy)]
-pub struct Place {
-    pub start: usize,
-    pub end: usize,
-    pub blank: bool,
-}

@@ -1,5 +1,0 @@
-use Rattle.std.proofs.Common.{◌≡◌, take}
-use Rattle.pj_making.proofs.copies.+copy_expr.Given as goal
-
-abbrev pub invariant-copy_arguments-loop-e : goal.invariant-copy_arguments-loop-e
-invariant-copy_arguments-loop-e l = l.copied ≡ take l.e-index l.es

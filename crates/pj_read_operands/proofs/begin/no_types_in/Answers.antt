@@ -1,0 +1,12 @@
+use Rattle.std.proofs.Common.{true, [], ◌≡◌, ◌∷◌, ◌∙◌, ap}
+use Rattle.pj_grammar.specs.declared.frame.Frame.{Frame}
+use Rattle.pj_grammar.specs.declared.frame.Frame.TheVariants as frames
+use Rattle.pj_grammar.specs.declared.frame.Given.TheVariants as given
+use Rattle.pj_grammar.specs.Machine.{close_types}
+use Rattle.pj_read_operands.proofs.Moving.{moved}
+use Rattle.pj_read_operands.proofs.begin.no_types_in.Goals as goal
+
+pub returns-in-Hole : goal.returns-in-Hole
+returns-in-Hole c =
+    let e : c.args.stack ≡ frames.Hole c.in-Hole.purpose ∷ c.pop.new.self = c.in-Some.ensures ∙ ap (λ (f : Frame). f ∷ c.pop.new.self) c.in-Hole.is in
+    moved (λ k. close_types (frames.Group c.args.start true ∷ frames.Call c.args.f (given.Paths (c.args.g ∷ [])) ∷ k)) c.no_types_hole.result c.args.stack _ e c.no_types_hole.ensures

@@ -1,4 +1,0 @@
-pub mod Fronts
-pub mod Readings
-pub mod Scripts
-pub mod Called
