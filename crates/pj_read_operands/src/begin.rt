@@ -9,13 +9,13 @@ ghost use Rattle.pj_read_frames.specs.Tops.{in_directive};
 
 use crate::calls::{close_call, only_of, type_of_param};
 use pj_base::Text;
+use pj_grammar::{Form, Frame, Given, Head, Level, Mode, Node, Operator, Purpose};
+use pj_lex::{Sign, TokenKind};
 use pj_read_closing::params::end_params;
 use pj_read_frames::place::Place;
 use pj_read_frames::reading::{Answer, Reading, at, gone, guarded, guarded_over, let_go, over};
 use pj_read_frames::stack::{Layer, Stack, split_top};
 use pj_read_frames::view::{admits, takes_directives, takes_lines};
-use pj_grammar::{Form, Frame, Given, Head, Level, Mode, Node, Operator, Purpose};
-use pj_lex::{Sign, TokenKind};
 use pj_read_makers::bounds::small;
 use pj_read_makers::expressions::{field_of, leaf, literal_of};
 use pj_read_makers::levels::{is_prefix, operator_text};

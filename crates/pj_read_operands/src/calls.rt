@@ -5,11 +5,11 @@ ghost use Rattle.pj_syntax.specs.declared.expression.Path.{Path};
 ghost use Rattle.pj_grammar.specs.Operands.{after_argument, after_group, begin_types, close_call, close_paths, define, have_type, open_call, open_direct, type_of_param, type_path};
 ghost use Rattle.pj_read_frames.specs.Tops.{only_of};
 
+use pj_grammar::{Form, Frame, Given, Head, Level, Mode, Purpose};
+use pj_lex::{Sign, TokenKind};
 use pj_read_frames::reading::{Answer, Reading, at, guarded, guarded_over, let_go, over};
 use pj_read_frames::stack::Stack;
 use pj_read_frames::view::{admits, takes_definition, takes_short};
-use pj_grammar::{Form, Frame, Given, Head, Level, Mode, Purpose};
-use pj_lex::{Sign, TokenKind};
 use pj_read_makers::bounds::small;
 use pj_read_makers::expressions::{call_of, group_of};
 use pj_read_makers::heads::node;

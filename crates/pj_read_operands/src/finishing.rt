@@ -8,6 +8,8 @@ ghost use Rattle.pj_read_operands.specs.Wants.{below_top, path_on, wanted_of, wa
 
 use crate::calls::{after_argument, after_group};
 use pj_base::NoMemory;
+use pj_grammar::{Frame, Given, Head, Level, Mode, Node, Opener, Operator, Purpose, Target};
+use pj_lex::{Sign, TokenKind};
 use pj_read_closing::ends::after_end;
 use pj_read_closing::evaluated::{closed_method, closed_set, closed_value};
 use pj_read_closing::lines::{closed_entry, closed_line};
@@ -16,8 +18,6 @@ use pj_read_frames::reading::{Answer, Reading, at, guarded, let_go, over};
 use pj_read_frames::settling::{Operand, settle};
 use pj_read_frames::stack::{Layer, Stack, split_top};
 use pj_read_frames::view::takes_items;
-use pj_grammar::{Frame, Given, Head, Level, Mode, Node, Opener, Operator, Purpose, Target};
-use pj_lex::{Sign, TokenKind};
 use pj_read_makers::bounds::small;
 use pj_read_makers::definitions::short_method;
 use pj_read_makers::heads::{give, head_path, is_value, node};

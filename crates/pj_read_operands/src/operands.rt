@@ -6,12 +6,12 @@ ghost use Rattle.pj_read_frames.specs.Tops.{settled_of};
 ghost use Rattle.pj_read_operands.specs.Values.{below_value};
 
 use crate::calls::{define, open_direct};
+use pj_grammar::{Frame, Head, Level, Mode, Node, Operator, Purpose, Target};
+use pj_lex::Sign;
 use pj_read_frames::reading::{Answer, Reading, guarded, guarded_over, let_go, over};
 use pj_read_frames::settling::Operand;
 use pj_read_frames::stack::Stack;
 use pj_read_frames::view::{admits, on_payload, takes_directives, takes_lines};
-use pj_grammar::{Frame, Head, Level, Mode, Node, Operator, Purpose, Target};
-use pj_lex::Sign;
 use pj_read_makers::bounds::small;
 use pj_read_makers::expressions::{field_of, name_of};
 use pj_read_makers::heads::{head_path, node};

@@ -3,14 +3,14 @@ ghost use Rattle.std.specs.Prelude.{◌≡◌, ◌∷◌, IfOk};
 ghost use Rattle.pj_grammar.specs.Machine.{after_declared, after_use, directive_end, end_uses, header, package_end, package_named, package_start};
 ghost use Rattle.pj_read_frames.specs.Places.{place_of};
 
+use pj_grammar::{Entries, Frame, Header, Mode, Root};
+use pj_lex::{Sign, TokenKind};
 use pj_read_closing::ends::after_end;
 use pj_read_closing::lines::closed_entry;
 use pj_read_closing::params::after_header;
 use pj_read_frames::place::Place;
 use pj_read_frames::reading::{Answer, Reading, at, let_go, over};
 use pj_read_frames::stack::Stack;
-use pj_grammar::{Entries, Frame, Header, Mode, Root};
-use pj_lex::{Sign, TokenKind};
 use pj_read_makers::items::{declared, directive_of, no_entries, using_of};
 use pj_syntax::{Path, PathList, Spot, SpotList};
 use pj_words::Word;

@@ -8,14 +8,14 @@ ghost use Rattle.pj_read_frames.specs.Places.{place_of};
 ghost use Rattle.pj_reader.specs.Words.{begins_line};
 
 use pj_base::{NoMemory, Text};
+use pj_grammar::{Frame, Head, Mode, Purpose, Target};
+use pj_lex::{Sign, TokenKind};
 use pj_read_closing::ends::{after_end, ending};
 use pj_read_closing::lines::closed_line;
 use pj_read_frames::place::Place;
 use pj_read_frames::reading::{Answer, Reading, at, guarded, guarded_over, over};
 use pj_read_frames::stack::Stack;
 use pj_read_frames::view::{takes_items, takes_module, takes_uses};
-use pj_grammar::{Frame, Head, Mode, Purpose, Target};
-use pj_lex::{Sign, TokenKind};
 use pj_read_makers::modules::ModuleNames;
 use pj_read_makers::statements::{bare_return, break_of, continue_of};
 use pj_read_makers::tokens::{assigning, ends_line, is_dot, is_end, is_paren, operator_at};

@@ -12,14 +12,14 @@ use crate::items::{
 };
 use crate::lines::{after_return, eval_name_then, global_assign, line, payload};
 use pj_base::{NoMemory, Text};
+use pj_grammar::{Frame, Header, Line, Mode, Purpose};
+use pj_lex::{Sign, Token, TokenKind};
 use pj_read_closing::ends::{after_line, is_close};
 use pj_read_closing::lines::closed_line;
 use pj_read_closing::params::start_field;
 use pj_read_frames::place::Place;
 use pj_read_frames::reading::{Answer, Reading, at, gone, guarded_over, let_go, over, parts};
 use pj_read_frames::stack::Stack;
-use pj_grammar::{Frame, Header, Line, Mode, Purpose};
-use pj_lex::{Sign, Token, TokenKind};
 use pj_read_makers::modules::ModuleNames;
 use pj_read_makers::tokens::begins_bounds;
 use pj_read_operands::begin::{

@@ -6,11 +6,11 @@ ghost use Rattle.pj_reader.specs.Read.{Accepts, GoesOn, IsFault, IsNextFault, Pr
 use crate::fault::{ReadFault, TextKind};
 use crate::machine::step;
 use pj_base::NoMemory;
+use pj_grammar::{Entries, Frame, Mode, Parsed, Root};
+use pj_lex::{Token, TokenKind, TokenList};
 use pj_read_frames::need::need;
 use pj_read_frames::reading::{Reading, parts, reading_at};
 use pj_read_frames::stack::{Stack, split_top};
-use pj_grammar::{Entries, Frame, Mode, Parsed, Root};
-use pj_lex::{Token, TokenKind, TokenList};
 use pj_read_makers::copies::copy_token;
 use pj_read_makers::items::no_entries;
 use pj_read_makers::modules::ModuleNames;
