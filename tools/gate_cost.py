@@ -1,9 +1,10 @@
 #!/usr/bin/env python3
 """What a gate costs: the processor minutes of each crate, for its proof and for its edits.
 
-    tools/gate_cost.py --watch LOG    run beside `rt ci`: looks at the prover's processes each second, and writes to LOG what each took.
-                                      Ends where no `rt ci` has run for half a minute
-    tools/gate_cost.py LOG            prints the table for docs/PROOFS.md from such a log
+    tools/gate_cost.py --watch LOG [FOLDER]   run beside `rt ci` of this clone, or of the one in FOLDER: looks each second at the prover's
+                                              processes that this gate started, and writes to LOG what each took. Ends where no such
+                                              gate has run for half a minute
+    tools/gate_cost.py LOG                    prints the table for docs/PROOFS.md from such a log
 
 A line of the log has the crate, `proof` or `edits`, the process and its seconds. The last line of a process counts. Where proofs ran
 beside edits, each has its own time; what links programs and runs them isn't counted.
@@ -27,28 +28,40 @@ def seconds_of(process):
     return sum(int(field) for field in fields[11:15]) / TICKS
 
 
-def look(seen):
-    """Notes what each process of the prover took until now. Answers whether a gate runs."""
-    runs = False
+def folder_of(process):
+    return os.readlink(f'/proc/{process}/cwd')
+
+
+def kind_of(place, gates, folder):
+    """What a process in this place does for one of these gates, if it does something: an edit is tried in a folder named by its gate."""
+    if 'rt-edit-' in place:
+        return 'edits' if place.split('rt-edit-')[1].split('-')[0] in gates else None
+    return 'proof' if place.startswith(f'{folder}/') else None
+
+
+def look(seen, folder):
+    """Notes what each process of a gate in the folder took until now. Answers whether one runs."""
+    gates, provers = set(), []
     for process in filter(str.isdigit, os.listdir('/proc')):
         try:
-            words = words_of(process)
-            if 'ci' in words and any(word.endswith('/rt') for word in words):
-                runs = True
-            if not words[0].endswith('/rattle') or '--crate-name' not in words:
-                continue
-            crate = words[words.index('--crate-name') + 1]
-            kind = 'edits' if 'rt-edit' in os.readlink(f'/proc/{process}/cwd') else 'proof'
-            seen[crate, kind, process] = seconds_of(process)
+            words, place = words_of(process), folder_of(process)
+            if 'ci' in words and any(word.endswith('/rt') for word in words) and place == folder:
+                gates.add(process)
+            if words[0].endswith('/rattle') and '--crate-name' in words:
+                provers.append((process, words[words.index('--crate-name') + 1], place, seconds_of(process)))
         except OSError:
             continue
-    return runs
+    for process, crate, place, seconds in provers:
+        kind = kind_of(place, gates, folder)
+        if kind:
+            seen[crate, kind, process] = seconds
+    return bool(gates)
 
 
-def watch(log):
+def watch(log, folder):
     seen, quiet = {}, 0
     while quiet < 30:
-        quiet = 0 if look(seen) else quiet + 1
+        quiet = 0 if look(seen, folder) else quiet + 1
         lines = [f'{crate} {kind} {process} {seconds:.2f}\n' for (crate, kind, process), seconds in seen.items()]
         pathlib.Path(log).write_text(''.join(lines))
         time.sleep(1)
@@ -77,8 +90,8 @@ def table(log):
 
 
 def main():
-    if len(sys.argv) == 3 and sys.argv[1] == '--watch':
-        watch(sys.argv[2])
+    if len(sys.argv) in (3, 4) and sys.argv[1] == '--watch':
+        watch(sys.argv[2], str(pathlib.Path((sys.argv[3:] or [TOP])[0]).resolve()))
     elif len(sys.argv) == 2 and not sys.argv[1].startswith('-'):
         table(sys.argv[1])
     else:
